@@ -1,21 +1,21 @@
 -- Calls one after another lead from good records to good ones.
-use Rattle.std.proofs.Common.{ℕ, ◌≡◌, ◌≤◌, ◌+◌, true, List, Option, Some, Result, Ok, sym, ap, ◌∙◌, subst, arith, inl, inr}
+use Rattle.std.proofs.Common.{ℕ, ◌≤◌, ◌+◌, Option, Some, Result, Ok, sym, ap, ◌∙◌, subst, arith, inl, inr}
 use Rattle.std.proofs.lemmas.Bool.{cases_lt}
 use Rattle.hg_cli.proofs.Lists.{keeps_before}
 use Rattle.hg_entry.specs.Table.{Table}
 use Rattle.hg_image.specs.Reading.{RecordFault}
-use Rattle.hg_save.proofs.Published.{keeps_later, published_earlier}
+use Rattle.hg_save.proofs.Published.{keeps_later}
 use Rattle.hg_save.specs.Others.{WasPublished}
-use Rattle.hg_save.specs.Record.{docket_in, reading}
-use Rattle.hg_session.proofs.GoodStays.{good_alike}
+use Rattle.hg_save.specs.Record.{shown_in, reading}
+use Rattle.hg_session.proofs.GoodStays.{holds_front, plain_of}
 use Rattle.hg_session.proofs.GoodParts.{stood_later, stood_shorter}
 use Rattle.hg_session.specs.Call.{Count, Looked, Saved, Watched}
-use Rattle.hg_session.specs.Good.{HoldsParent, IsFair, IsGoodGround, LeavesGood, LeavesParent, StaysGood}
+use Rattle.hg_session.specs.Good.{HoldsParent, IsFair, IsGoodGround, IsGoodIn, LeavesGood, LeavesParent, StaysGood}
 use Rattle.hg_shelf.proofs.Scenes.{goes_trans, only_before, only_later}
 use Rattle.hg_shelf.specs.History as shelf
 use Rattle.hg_shelf.specs.History.{Files, others}
 use Rattle.hg_shelf.specs.Images.{Course, Goes, Remains, Scene, last_scene, scene}
-use Rattle.hg_shelf.specs.Polite.{KeepsPlain, is_plain}
+use Rattle.hg_shelf.specs.Polite.{KeepsThere}
 use Rattle.hg_tree.proofs.Faces.{past_honest}
 use Rattle.hg_tree.proofs.Histories.{extends_trans}
 use Rattle.hg_tree.specs.History as tree
@@ -31,9 +31,9 @@ pub record LeadsOn (looked : Looked) (saved : Saved) : Type 0 where
   pub good : StaysGood looked saved
 
 -- where a scene remains, a crash leaves of the plain store what it left
-parent_remains : (s t : Scene) → Remains s t → LeavesParent s → LeavesParent t
-parent_remains s t still parent = record {
-  shown = λ c table left is. subst (λ (f : Files). HoldsParent (first_id table) f c) (sym still.shown) (parent.shown c table (still.left c left) is);
+parent_remains : (store : Files) (s t : Scene) → Remains s t → LeavesParent store s → LeavesParent store t
+parent_remains store s t still parent = record {
+  shown = λ c table left is. parent.shown c table (still.left c left) is;
   left = λ c table left is. subst (HoldsParent (first_id table) c) (sym still.shown) (parent.left c table (still.left c left) is);
 }
 
@@ -59,7 +59,7 @@ module _ (x y z : tree.History) (a b c : Course) (fx fy fz : ℕ) (p q r : Watch
   abbrev start : ℕ
   start = a.history.last
 
-  published_on : (recorded : Option (Result Table RecordFault)) → WasPublished b start b.history.last recorded → WasPublished c start c.history.last recorded
+  abbrev published_on : (recorded : Option (Result Table RecordFault)) → WasPublished b start b.history.last recorded → WasPublished c start c.history.last recorded
   published_on recorded was = record {
     at = was.at;
     from = was.from;
@@ -67,16 +67,28 @@ module _ (x y z : tree.History) (a b c : Course) (fx fy fz : ℕ) (p q r : Watch
     by = behind.past.who was.at was.to ∙ was.by;
     fresh = λ same.
         was.fresh
-        (ap docket_in (sym (behind.kept (was.at + 1) (omega (arith, was.to))).shown) ∙ same ∙ ap docket_in (behind.kept was.at (omega (arith, was.to))).shown);
+        (ap shown_in (sym (behind.kept (was.at + 1) (omega (arith, was.to))).shown) ∙ same ∙ ap shown_in (behind.kept was.at (omega (arith, was.to))).shown);
     shown = ap reading (behind.kept (was.at + 1) (omega (arith, was.to))).shown ∙ was.shown;
   }
 
-  plain_first : KeepsPlain c.history start → KeepsPlain b.history start
+  plain_first : KeepsThere c.history start → KeepsThere b.history start
   plain_first plain = record {
     told = sym behind.past.told ∙ plain.told;
-    each = λ name is k from upto.
-        ap (λ (f : Files). f name) (sym (behind.past.stay k upto).shown) ∙ plain.each name is k from (omega (arith, upto, behind.past.later))
-        ∙ ap (λ (f : Files). f name) (behind.past.stay start goes.past.later).shown;
+    each = λ name is k l from order upto bytes there.
+        ap (λ (f : Files). f name) (sym (behind.past.stay l upto).shown)
+        ∙ plain.each name is k l from order (omega (arith, upto, behind.past.later)) bytes (ap (λ (f : Files). f name) (behind.past.stay k (omega (arith, order, upto))).shown ∙ there);
+  }
+
+  -- what is there at the end of the first part is so at the end of the second
+  holds_end : KeepsThere c.history start → (table : Table) → HoldsParent (first_id table) (last_scene b).files (last_scene c).files
+  holds_end plain table name bytes of there =
+      plain.each name (plain_of (last_scene b).files (first_id table) name of) b.history.last c.history.last goes.past.later behind.past.later (omega arith) bytes
+      (ap (λ (f : Files). f name) (behind.past.stay b.history.last (omega arith)).shown ∙ there)
+
+  parent_first : KeepsThere c.history start → (k : ℕ) → LeavesParent (last_scene c).files (scene b k) → LeavesParent (last_scene b).files (scene b k)
+  parent_first plain k parent = record {
+    shown = λ f table left is. holds_front (first_id table) (last_scene b).files (last_scene c).files f (holds_end plain table) (parent.shown f table left is);
+    left = parent.left;
   }
 
   -- what a call needs its first part has
@@ -85,16 +97,14 @@ module _ (x y z : tree.History) (a b c : Course) (fx fy fz : ℕ) (p q r : Watch
     told = fair.told;
     honest = past_honest y z second_past fair.honest;
     plain = plain_first fair.plain;
-    parent = λ k after within. parent_remains (scene c k) (scene b k) (behind.back k within) (fair.parent k after (omega (arith, within, behind.past.later)));
+    parent = λ k after within.
+        parent_first fair.plain k (parent_remains (last_scene c).files (scene c k) (scene b k) (behind.back k within) (fair.parent k after (omega (arith, within, behind.past.later))));
     calm = record { told = fair.calm.told; others = only_before b c start behind fair.calm.others };
     keep = keeps_before others b c start behind fair.keep;
     kept = stood_shorter b.history c.history start behind.past fair.kept;
-    published = λ t was. fair.published t (published_on (Some (Ok t)) was);
+    published = λ t was.
+        subst (λ (f : Files). IsGoodIn f t by) (behind.kept (was.at + 1) (omega (arith, was.to))).shown (fair.published t (published_on (Some (Ok t)) was));
   }
-
-  alike_mid : KeepsPlain c.history start → (name : List ℕ) → is_plain name ≡ true → (last_scene b).files name ≡ (last_scene a).files name
-  alike_mid plain name is =
-      (plain_first plain).each name is b.history.last goes.past.later (omega arith) ∙ ap (λ (f : Files). f name) (goes.past.stay start (omega arith)).shown
 
   -- and so has its second
   fair_second : (by : tree.History) → IsFair by whole both → IsFair by second rest
@@ -103,16 +113,14 @@ module _ (x y z : tree.History) (a b c : Course) (fx fy fz : ℕ) (p q r : Watch
     honest = fair.honest;
     plain = record {
       told = fair.plain.told;
-      each = λ name is k from upto.
-          fair.plain.each name is k (omega (arith, goes.past.later, from)) upto ∙ sym (fair.plain.each name is b.history.last goes.past.later behind.past.later);
+      each = λ name is k l from. fair.plain.each name is k l (omega (arith, goes.past.later, from));
     };
     parent = λ k after within. fair.parent k (omega (arith, goes.past.later, after)) within;
     calm = record { told = goes.past.told ∙ fair.calm.told; others = only_later c start b.history.last goes.past.later fair.calm.others };
     keep = keeps_later others c start b.history.last goes.past.later fair.keep;
     kept = stood_later c.history start b.history.last goes.past.later fair.kept;
     published = λ t was.
-        good_alike (last_scene a).files (last_scene b).files (alike_mid fair.plain) t by
-        (fair.published t (published_earlier c start b.history.last c.history.last (Some (Ok t)) goes.past.later was));
+        fair.published t (record { at = was.at; from = omega (arith, goes.past.later, was.from); to = was.to; by = was.by; fresh = was.fresh; shown = was.shown });
   }
 
   -- what is good in the first part still is at the end of the second

@@ -139,7 +139,7 @@ module _ {T S G O E : Type 0} (views : Views T S G O E)
 
   run_leads : (words : List (List ℕ)) (old new : Devices) (code : ℕ) (fault : Option Fault) → Runs words old new code fault → Leads old new
   run_leads words old new code fault (inl (command, is, carried)) = carried_leads command old new code fault carried
-  run_leads words old new code fault (inr unread) = idle_leads (seen views old new).looked (seen views old new).saved (seen views old new).locks (seen views old new).out unread.idle
+  run_leads words old new code fault (inr unread) = idle_leads (seen views old new).looked (seen views old new).saved (seen views old new).locks (seen views old new).out unread.undone.idle
 
   stopped_or_run : (is : Bool) (met : Fault) (words : List (List ℕ)) (old new : Devices) (code : ℕ) (fault : Option Fault)
       → MatchBool is (IsStopped met (seen views old new) code fault) (Runs words old new code fault) → Leads old new

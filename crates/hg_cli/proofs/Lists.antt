@@ -56,7 +56,7 @@ carried_steps (a_command.DebugLoad n) looked saved locks out err code fault load
 pub run_steps : (words : List (List ℕ)) (looked : Looked) (saved : Saved) (locks : Count) (out err : Sink) (code : ℕ) (fault : Option Fault)
     (run : IsRun words looked saved locks out err code fault) → Steps (made_run run) saved
 run_steps words looked saved locks out err code fault (inl (command, is, carried)) = carried_steps command looked saved locks out err code fault carried
-run_steps words looked saved locks out err code fault (inr unread) = idle_steps looked saved locks out unread.idle
+run_steps words looked saved locks out err code fault (inr unread) = idle_steps looked saved locks out unread.undone.idle
 
 module _ {S : Type 0} (course_of : S → Course) (first : S) where
   abbrev start : ℕ

@@ -1,6 +1,7 @@
 -- A status over the copy that asks for all letters and meets no fault: what it prints, and what stands behind it.
 use Rattle.std.proofs.Common.{ℕ, ◌≡◌, ◌*◌, ◌%◌, ◌<◌, ◌≤◌, ◌⊎◌, Bool, true, false, List, [], ◌++◌, Option, Some, None, Ok, inl, inr, refl, sym, ap, subst, ◌∙◌, arith, eqb}
 use Rattle.std.specs.Prelude.{IfSome, IsTrue, codes, option_map}
+use Rattle.hg_save.specs.Loads.{Try}
 use Rattle.hg_append.specs.declared.way.Way.{Way}
 use Rattle.hg_append.specs.declared.way.Way.TheVariants as a_way
 use Rattle.hg_append.specs.Loss.{plan_of}
@@ -18,13 +19,14 @@ use Rattle.hg_save.specs.Record.{data_name, reading}
 use Rattle.hg_save.specs.Saved.{new_docket}
 use Rattle.hg_save.proofs.Spans.{keep_used}
 use Rattle.hg_session.proofs.Longer.{right_by_start, rows_stay}
+use Rattle.hg_session.proofs.Parents.{kept_stays}
 use Rattle.hg_session.proofs.SameTables.{one_table}
 use Rattle.hg_session.specs.Call.{Count, Looked, Saved, Sink}
 use Rattle.hg_session.specs.Change.{IsSafe, up_to}
 use Rattle.hg_session.specs.Listed.{IsOwn, IsRightFor}
 use Rattle.hg_session.specs.Saving.{IsLockedToSave, IsNotedHeld}
 use Rattle.hg_session.specs.Ways.{KeepsBy}
-use Rattle.hg_session.specs.Status.{AreEarnedFor, IsFullText, IsLoadedFirst, RanStatus, SavesLast, noted_in}
+use Rattle.hg_session.specs.Status.{AreEarnedFor, ByLoadedFirst, IsFullText, IsLoadedFirst, RanStatus, SavesLast, noted_in}
 use Rattle.hg_shelf.specs.History as shelf
 use Rattle.hg_shelf.specs.Images.{Images, course}
 use Rattle.hg_shelf.specs.Polite.{KeepsPlain, Undisturbed, is_plain}
@@ -132,15 +134,15 @@ module _ (dirs : ℕ) (looked : Looked) (before after : ℕ → Images) (locks :
         (λ by. record { each = λ k after before who. absurd (omega (arith, after, before)) })
 
     -- nothing was written, or the record with the notes is what is recorded then
-    locked_still : (t : Table) → locks.before ≡ 0 → Rose locks.before locks.after → IsLockedToSave looked.shelf.old looked.shelf saved locks t notes None → end ≤ start
-    locked_still t none rose (inl (blank, only)) = asked_still looked.shelf.new shelf_ours looked.shelf.old only.passes
-    locked_still t none rose (inr (inl over)) = none_late looked.shelf.new shelf_ours start end (omega arith) over.unwritten.none
-    locked_still t none rose (inr (inr (inl not_got))) = none_late looked.shelf.new shelf_ours start end (omega arith) not_got.unwritten.none
-    locked_still t none rose (inr (inr (inr (inl returned)))) = let same : locks.after ≡ locks.before = returned.uncounted in absurd (omega (arith, same, none, rose))
-    locked_still t none rose (inr (inr (inr (inr not_back)))) = let same : locks.after ≡ locks.before = not_back.uncounted in absurd (omega (arith, same, none, rose))
+    locked_still : (Own : Try → Type 0) (t : Table) → locks.before ≡ 0 → Rose locks.before locks.after → IsLockedToSave Own looked.shelf.old looked.shelf saved locks t notes None → end ≤ start
+    locked_still Own t none rose (inl (blank, only)) = asked_still looked.shelf.new shelf_ours looked.shelf.old only.passes
+    locked_still Own t none rose (inr (inl over)) = none_late looked.shelf.new shelf_ours start end (omega arith) over.unwritten.none
+    locked_still Own t none rose (inr (inr (inl not_got))) = none_late looked.shelf.new shelf_ours start end (omega arith) not_got.unwritten.none
+    locked_still Own t none rose (inr (inr (inr (inl returned)))) = let same : locks.after ≡ locks.before = returned.uncounted in absurd (omega (arith, same, none, rose))
+    locked_still Own t none rose (inr (inr (inr (inr not_back)))) = let same : locks.after ≡ locks.before = not_back.uncounted in absurd (omega (arith, same, none, rose))
 
-    noted_ends : (t : Table) → IsNotedHeld looked.shelf.old t notes saved → (end ≤ start) ⊎ (reading (shelf.now looked.shelf.new).files ≡ Some (Ok (applied notes t)))
-    noted_ends t noted =
+    noted_ends : (Own : Try → Type 0) (t : Table) → IsNotedHeld Own looked.shelf.old t notes saved → (end ≤ start) ⊎ (reading (shelf.now looked.shelf.new).files ≡ Some (Ok (applied notes t)))
+    noted_ends Own t noted =
         let made = noted calm in
         elim made.1 [
           | inl unsaved ↦ inl (none_late looked.shelf.new shelf_ours start end (omega arith) unsaved.1.none)
@@ -157,14 +159,14 @@ module _ (dirs : ℕ) (looked : Looked) (before after : ℕ → Images) (locks :
               ∙ ap (λ (table : Table). Some (Ok table)) (one_table kept.found (applied notes t) kept.is))
         ]
 
-    ends : (t : Table) → locks.before ≡ 0 → SavesLast looked.shelf saved locks (Some t) notes None → (end ≤ start) ⊎ (reading (shelf.now looked.shelf.new).files ≡ Some (Ok (applied notes t)))
-    ends t none saving = elim (saving.saves refl) [
+    ends : (Own : Try → Type 0) (t : Table) → locks.before ≡ 0 → SavesLast Own looked.shelf saved locks (Some t) notes None → (end ≤ start) ⊎ (reading (shelf.now looked.shelf.new).files ≡ Some (Ok (applied notes t)))
+    ends Own t none saving = elim (saving.saves refl) [
       | inl blank ↦ inl (asked_still looked.shelf.new shelf_ours looked.shelf.old (saving.idle blank).passes)
-      | inr more ↦ elim more [ inl rose ↦ inl (locked_still t none rose saving.locked) | inr noted ↦ noted_ends t noted ]
+      | inr more ↦ elim more [ inl rose ↦ inl (locked_still Own t none rose saving.locked) | inr noted ↦ noted_ends Own t noted ]
     ]
 
     -- over the table that was read
-    module _ (t : Table) (loaded : IsLoadedFirst looked.shelf t) (saving : SavesLast looked.shelf saved locks (Some t) notes None) where
+    module _ (Own : Try → Type 0) (t : Table) (loaded : IsLoadedFirst looked.shelf t) (saving : SavesLast Own looked.shelf saved locks (Some t) notes None) where
       same : between.table ≡ t
       same = one_reading (reading there) between.table t between.reads (read_there looked.shelf.new shelf_ours looked.shelf.old past t (loaded shelf_told))
 
@@ -215,30 +217,30 @@ module _ (dirs : ℕ) (looked : Looked) (before after : ℕ → Images) (locks :
         trusted =
             subst (λ (rows : List ℕ → Option ParentRow). IsTrusted rows (applied notes t) looked.tree.new)
             (ap (rows_in t) (sym shown_first) ∙ sym (rows_stay t looked.shelf.new start end past.later (omega arith) plain))
-            (notes_are_trusted (rows_in t there) t looked.tree.new notes (trust_stays (rows_in t there) t looked.tree.old looked.tree.new passes.past trusted) (earned honest tree_told plain));
+            (notes_are_trusted (rows_in t there) t looked.tree.new notes (trust_stays (rows_in t there) t looked.tree.old looked.tree.new passes.past trusted) (earned there honest tree_told (kept_stays looked.shelf.old looked.shelf.new past plain)));
         parent = parent_kept dirs there (shelf.now looked.shelf.new).files alike between.parent;
       }
 
       pub next : locks.before ≡ 0 → AreNeeded t notes → AreEarnedFor looked t notes → IsBetween dirs (shelf.now looked.shelf.new).files looked.tree.new
-      next none needed earned = elim (ends t none saving) [ inl still ↦ still_next still | inr reads ↦ noted_next needed earned reads ]
+      next none needed earned = elim (ends Own t none saving) [ inl still ↦ still_next still | inr reads ↦ noted_next needed earned reads ]
 
-    right_some : (o : Option Table) → IfSome o (IsLoadedFirst looked.shelf) → SavesLast looked.shelf saved locks o notes None → IfSome o (IsRightFor looked)
-    right_some None loaded saving = tt
-    right_some (Some t) loaded saving = right t loaded saving
+    right_some : (Own : Try → Type 0) (o : Option Table) → IfSome o (IsLoadedFirst looked.shelf) → SavesLast Own looked.shelf saved locks o notes None → IfSome o (IsRightFor looked)
+    right_some Own None loaded saving = tt
+    right_some Own (Some t) loaded saving = right Own t loaded saving
 
-    next_some : (o : Option Table) → IfSome o (IsLoadedFirst looked.shelf) → IfSome o (λ t. AreNeeded t notes) → IfSome o (λ t. AreEarnedFor looked t notes) → SavesLast looked.shelf saved locks o notes None
+    next_some : (Own : Try → Type 0) (o : Option Table) → IfSome o (IsLoadedFirst looked.shelf) → IfSome o (λ t. AreNeeded t notes) → IfSome o (λ t. AreEarnedFor looked t notes) → SavesLast Own looked.shelf saved locks o notes None
         → locks.before ≡ 0 → IsBetween dirs (shelf.now looked.shelf.new).files looked.tree.new
-    next_some None loaded needed earned saving none = absurd (saving.saves refl)
-    next_some (Some t) loaded needed earned saving none = next t loaded saving none needed earned
+    next_some Own None loaded needed earned saving none = absurd (saving.saves refl)
+    next_some Own (Some t) loaded needed earned saving none = next Own t loaded saving none needed earned
 
   module _ (code : ℕ) (ran : RanStatus all_letters (record { command = a_command.Status all_letters; looked = looked; saved = saved; locks = locks; out = out; err = err }) code None) where
     -- the files that it leaves record the copy, too, where no lock was refused before
     pub leaves : locks.before ≡ 0 → IsBetween dirs (shelf.now looked.shelf.new).files looked.tree.new
-    leaves none = next_some ran.saving.kept.past ran.tree ran.notes ran.table ran.loaded ran.needed ran.earned ran.saving none
+    leaves none = next_some ran.saving.kept.past ran.tree ran.notes (ByLoadedFirst looked.shelf ran.table ran.loaded) ran.table ran.loaded ran.needed ran.earned ran.saving none
 
     -- what it prints is the text of the full listing
     pub prints : (text : List ℕ) → out.old ≡ Some [] → out.new ≡ Some text → IsFullText all_letters there (tree.now looked.tree.old) text
     prints text empty printed =
-        let puts = ran.whole refl own (right_some ran.saving.kept.past ran.tree ran.notes ran.table ran.loaded ran.saving) in
+        let puts = ran.whole refl own (right_some ran.saving.kept.past ran.tree ran.notes (ByLoadedFirst looked.shelf ran.table ran.loaded) ran.table ran.loaded ran.saving) in
         let grown : Some text ≡ Some puts.text = sym printed ∙ puts.put ∙ ap (option_map (λ bytes. bytes ++ puts.text)) empty in
         subst (IsFullText all_letters there (tree.now looked.tree.old)) (sym (ap (text_in text) grown)) puts.is

@@ -103,7 +103,7 @@ carried_own (a_command.DebugLoad n) part code fault loaded = λ failed.
 -- no words of a command meet it
 pub words_own : (words : List (List ℕ)) (part : Seen) (code : ℕ) (fault : Option Fault) → IsRun words part.looked part.saved part.locks part.out part.err code fault → fault ≡ Some a_fault.InFailed → ⊥
 words_own words part code fault (inl (command, is, carried)) failed = carried_own command part code fault carried failed
-words_own words part code fault (inr unread) failed = not_input fault (cause.of_words unread.met) unread.answered (words_other unread.met) failed
+words_own words part code fault (inr unread) failed = not_input fault (cause.of_words unread.met) unread.undone.answered (words_other unread.met) failed
 
 line_by : (is : Bool) (number : ℕ) (words : List (List ℕ)) (part : Seen) (code : ℕ) (fault : Option Fault)
     → MatchBool is (IsStopped (a_fault.ScriptNested number) part code fault) (IsRun words part.looked part.saved part.locks part.out part.err code fault) → fault ≡ Some a_fault.InFailed → ⊥
@@ -166,7 +166,7 @@ module _ {D : Type 0} (seen : D → D → Seen) (number : ℕ) where
       → MatchBool is (IsStopped (a_fault.ScriptNested number) part code fault) (IsRun words part.looked part.saved part.locks part.out part.err code fault)
   by_name true words part code fault stopped = record { answered = inr (out_of_memory fault stopped.answered); told = stopped.told; idle = stopped.idle; status = stopped.status }
   by_name false words part code fault stopped =
-      inr (record { met = a_words.OutOfMemory; why = inl refl; answered = stopped.answered; told = stopped.told; idle = stopped.idle; status = stopped.status })
+      inr (record { met = a_words.OutOfMemory; why = inl refl; undone = stopped })
 
   of_words : (words : List (List ℕ)) (old new : D) (code : ℕ) (fault : Option Fault) → 0 < length words → IsStopped a_fault.OutOfMemory (seen old new) code fault → DoesWords seen number words old new code fault
   of_words [] old new code fault some stopped = absurd (omega (arith, some))
@@ -183,7 +183,7 @@ module _ {T S G O E : Type 0} (views : Views T S G O E) (words : List (List ℕ)
   unread_by : (is : Bool) (met : WordsFault) → is_script words ≡ is → (met ≡ a_words.OutOfMemory) ⊎ (command_of words ≡ Err met) → IsStopped (cause.of_words met) (seen views old new) code fault
       → MatchBool is (RunsScript (Does (seen views)) from to old new code fault)
       (IsRun words (seen views old new).looked (seen views old new).saved (seen views old new).locks (seen views old new).out (seen views old new).err code fault)
-  unread_by false met is why stopped = inr (record { met = met; why = why; answered = stopped.answered; told = stopped.told; idle = stopped.idle; status = stopped.status })
+  unread_by false met is why stopped = inr (record { met = met; why = why; undone = stopped })
   unread_by true met is (inl memory) stopped =
       let so : IsStopped a_fault.OutOfMemory (seen views old new) code fault = subst (λ (m : WordsFault). IsStopped (cause.of_words m) (seen views old new) code fault) memory stopped in
       fails_with (Does (seen views)) from old new code to fault (some_fault fault a_fault.OutOfMemory so.answered) so

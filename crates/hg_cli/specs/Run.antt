@@ -1,6 +1,6 @@
 -- What a run answers by its words, and what holds of lists of runs.
 use Rattle.std.proofs.Common.{inl, inr}
-use Rattle.std.specs.Prelude.{ℕ, ◌≡◌, ◌⊎◌, List, Option, Ok, Err, IfSome, IsTrue}
+use Rattle.std.specs.Prelude.{ℕ, ◌≡◌, ◌⊎◌, List, Option, Ok, Err, IsTrue}
 use Rattle.hg_base.specs.Runs.{RunsEach}
 use Rattle.hg_cli.specs.Load.{IsLoaded}
 use Rattle.hg_report.specs.Cause.{of_words}
@@ -9,10 +9,9 @@ use Rattle.hg_save.specs.Others.{HasData, KeepData, KeepsRecords}
 use Rattle.hg_save.specs.Saved.{IsLatest}
 use Rattle.hg_save.specs.Behind.{KeepsUsed}
 use Rattle.hg_session.specs.Acts.{Makes, makes_nothing}
-use Rattle.hg_session.specs.Answered.{IsAnswered, IsIdle, made_by}
+use Rattle.hg_session.specs.Answered.{IsAnswered, IsUndone, made_by}
 use Rattle.hg_session.specs.Call.{Count, Looked, Saved, Sink}
 use Rattle.hg_session.specs.Crash.{IsSafeBy, LeavesSound}
-use Rattle.hg_session.specs.Put.{IsFaultOrMemory, Tells}
 use Rattle.hg_shelf.specs.History.{others, us}
 use Rattle.hg_shelf.specs.Images.{Course, last_scene}
 use Rattle.hg_shelf.specs.Polite.{OthersOnlyRead}
@@ -28,10 +27,7 @@ use Rattle.hg_words.specs.declared.given.Command.TheVariants as a_command
 pub record IsUnread (words : List (List ℕ)) (looked : Looked) (saved : Saved) (locks : Count) (out err : Sink) (code : ℕ) (fault : Option Fault) : Type 0 where
   pub met : WordsFault
   pub why : (met ≡ a_words.OutOfMemory) ⊎ (command_of words ≡ Err met)
-  pub answered : IsFaultOrMemory fault (of_words met)
-  pub told : IfSome fault (Tells err)
-  pub idle : IsIdle looked saved locks out
-  pub status : code ≡ 255
+  pub undone : IsUndone (of_words met) looked saved locks out err code fault
 
 -- what a command did: a load is two statuses over a working copy in memory, and each other is answered by itself
 abbrev pub Carries : Command → Looked → Saved → Count → Sink → Sink → ℕ → Option Fault → Type 0

@@ -1,5 +1,5 @@
 -- What a script does: the command of each line, one after another.
-use Rattle.std.specs.Prelude.{ℕ, ◌≡◌, Bool, true, false, List, [], ◌∷◌, codes, Option, None, Result, Ok, IfSome, MatchBool}
+use Rattle.std.specs.Prelude.{ℕ, ◌≡◌, Bool, true, false, List, [], ◌∷◌, codes, Option, None, Result, Ok, MatchBool}
 use Rattle.std.specs.Str.{bytes_eq}
 use Rattle.hg_cli.specs.Run.{IsRun}
 use Rattle.hg_lines.specs.Script.{words_of}
@@ -8,9 +8,8 @@ use Rattle.hg_lines.specs.declared.fault.LineFault.{LineFault}
 use Rattle.hg_lines.specs.declared.fault.LineFault.TheVariants as a_line
 use Rattle.hg_report.specs.declared.fault.Fault.{Fault}
 use Rattle.hg_report.specs.declared.fault.Fault.TheVariants as a_fault
-use Rattle.hg_session.specs.Answered.{IsIdle}
+use Rattle.hg_session.specs.Answered.{IsUndone}
 use Rattle.hg_session.specs.Call.{Count, Looked, Saved, Sink, counted, saved_by, watched}
-use Rattle.hg_session.specs.Put.{IsFaultOrMemory, Tells}
 use Rattle.hg_shelf.specs.History as shelf
 use Rattle.hg_shelf.specs.Images.{Images}
 use Rattle.hg_tree.specs.History as tree
@@ -77,12 +76,9 @@ seen views old new = record {
   err = watched views.err views.err_faults old.4 new.4;
 }
 
--- a fault was met before anything was done: its line is told, and nothing else is done
-pub record IsStopped (met : Fault) (part : Seen) (code : ℕ) (fault : Option Fault) : Type 0 where
-  pub answered : IsFaultOrMemory fault met
-  pub told : IfSome fault (Tells part.err)
-  pub idle : IsIdle part.looked part.saved part.locks part.out
-  pub status : code ≡ 255
+-- a fault was met before anything was done
+abbrev pub IsStopped : Fault → Seen → ℕ → Option Fault → Type 0
+IsStopped met part code fault = IsUndone met part.looked part.saved part.locks part.out part.err code fault
 
 -- what the words of a line do: none do nothing; those of a script are refused; others are run as a command's words are
 abbrev pub DoesWords : {D : Type 0} → (D → D → Seen) → ℕ → List (List ℕ) → D → D → ℕ → Option Fault → Type 0

@@ -36,7 +36,7 @@ pub fn each_call_is_safe<T: Tree, S: Shelf, G: Regexps, O: Sink, E: Sink>()
 {}
 
 /// From a shelf of which whatever a crash leaves is good, each call of a list of calls of `run`, each of which may be a script, leads to such a one, at each
-/// of its moments, where it has what it needs of others: honest times, a plain store that doesn't change, and good records of theirs.
+/// of its moments, where it has what it needs of others: honest times, a plain store whose files stay once they are there, and good records of theirs.
 pub fn each_call_is_good<T: Tree, S: Shelf, G: Regexps, O: Sink, E: Sink>()
     ensures { EachCallIsGood (record {
       tree = T.history;

@@ -1,15 +1,21 @@
 -- What was asked of the shelf: the size of the contents, and behind it their bytes.
-use Rattle.std.proofs.Common.{◌≡◌, ℕ, Bool, [], ◌∷◌, ◌++◌, List, replicate, Result, Ok, Err, refl, ap, ◌∙◌, arith, inl, inr}
+use Rattle.std.proofs.Common.{◌≡◌, ℕ, zero, suc, ◌-◌, ◌*◌, min, Bool, [], ◌∷◌, ◌++◌, List, Result, Ok, Err, refl, ap, ◌∙◌, arith, inl, inr}
+use Rattle.std.specs.List.{AllByRecursion}
 use Rattle.std.proofs.lemmas.List.{append_assoc}
 use Rattle.hg_shelf.specs.History as shelf
 use Rattle.hg_shelf.specs.declared.asked.Asked.{Asked}
 use Rattle.hg_shelf.specs.declared.asked.Asked.TheVariants as a_shelf_ask
 use Rattle.hg_compare.specs.Pieces.{AsksSize, ReadsTheirs}
-use Rattle.hg_compare.specs.Same.{AsksContents, AsksOrFails}
+use Rattle.hg_compare.specs.Same.{AsksContents, AsksOrFails, IsPieceOf, pieces_from}
 use Rattle.hg_compare.specs.Seen.{Compared, HasSize}
 use Rattle.hg_compare.specs.declared.fault.CompareFault.{CompareFault}
 use Rattle.hg_compare.specs.declared.fault.CompareFault.TheVariants as a_fault
 use Rattle.hg_compare.specs.declared.looked.Looked.{Looked}
+
+-- each of some pieces is one
+pub pieces_are : (size : ℕ) (name : List ℕ) (k n : ℕ) → AllByRecursion (IsPieceOf name) (pieces_from size name k n)
+pieces_are size name k zero = tt
+pieces_are size name k (suc n) = (record { number = k; width = min (size - 65536 * k) 65536; few = omega arith; is = refl }, pieces_are size name (suc k) n)
 
 -- the size alone
 size_alone : (c : Compared) (size : ℕ) → c.shelf_new.asked ≡ c.shelf_old.asked ++ a_shelf_ask.Size c.name ∷ [] → AsksContents c size
@@ -34,6 +40,6 @@ asks_bytes c mid size sized t result is (inr asked) has reads =
       pieces = reads.pieces;
       few = reads.few;
       sized = inr has;
-      asked = reads.asked ∙ ap (λ (l : List Asked). l ++ replicate reads.pieces (a_shelf_ask.Read c.name)) asked
-          ∙ append_assoc c.shelf_old.asked (a_shelf_ask.Size c.name ∷ []) (replicate reads.pieces (a_shelf_ask.Read c.name));
+      asked = reads.asked ∙ ap (λ (l : List Asked). l ++ pieces_from size c.name 0 reads.pieces) asked
+          ∙ append_assoc c.shelf_old.asked (a_shelf_ask.Size c.name ∷ []) (pieces_from size c.name 0 reads.pieces);
     })

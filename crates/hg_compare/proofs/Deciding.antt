@@ -1,6 +1,6 @@
 -- Where nothing changes meanwhile, what was seen decides whether the thing equals the row.
 use Rattle.std.proofs.Common.{◌≡◌, ℕ, zero, suc, Bool, true, false, not, ◌&&◌, List, [], ◌∷◌, length, take, drop, slice_get, Option, Some, None, Result, Ok, Err, refl, sym, ap, ◌∙◌, subst, arith, inl, inr}
-use Rattle.std.specs.Prelude.{IsTrue, option_map}
+use Rattle.std.specs.Prelude.{IsTrue, is_some, option_map}
 use Rattle.std.specs.Option.{option_and_then}
 use Rattle.std.specs.Str.{bytes_eq}
 use Rattle.std.proofs.lemmas.Bool.{cases_Bool, cases_lt}
@@ -9,6 +9,9 @@ use Rattle.std.proofs.lemmas.Slice.Eq.{bytes_eq-Decides}
 use Rattle.hg_base.specs.declared.stat.Stat.{Stat}
 use Rattle.hg_manifest.specs.Load.{Stays}
 use Rattle.hg_manifest.specs.declared.row.FileRow.{FileRow}
+use Rattle.hg_manifest.proofs.Loads.{was_in}
+use Rattle.hg_shelf.specs.History as shelf
+use Rattle.hg_shelf.specs.Polite.{StaysIn}
 use Rattle.hg_shelf.specs.Reads.{size_of}
 use Rattle.hg_tree.specs.History as tree
 use Rattle.hg_tree.specs.Moment.{Moment, bytes_at, bytes_of, stat_at, stat_of}
@@ -183,3 +186,78 @@ decides c row before file result passes seen told held stays file_stays stat = b
     by_thing None there shown = absurd (cc shown)
     by_thing (Some placed) there shown =
         some_or_none c row before file placed.thing placed.mtime passes told held stays file_stays there (cc shown) (bytes_of placed.thing) refl result seen
+
+-- ---- a file that may come
+
+module _ (store : shelf.Files) (c : Compared) (held : IsTrue c.shelf_old.told) (stays : StaysIn store c.shelf_new c.shelf_old.last c.name) where
+  -- as if the store had stood there all the while
+  abbrev throughout : Compared
+  throughout = record c { shelf_new = record c.shelf_new { at = λ k. record { files = store } } }
+
+  held_throughout : (P : Option (List ℕ) → Type 0) → (P None → ⊥) → Holds c P → Holds throughout P
+  held_throughout P there is = record {
+    at = is.at;
+    during = λ told. let during = is.during told in record { from = during.from; to = during.to };
+    so = λ told. was_in store c.shelf_old c.shelf_new c.name P held stays there is;
+  }
+
+  shown_throughout : (P : Moment → Type 0) → Shows c P → Shows throughout P
+  shown_throughout P is = record { at = is.at; during = is.during; so = is.so }
+
+  same_throughout : (before : Stat) → IsSame c before → IsSame throughout before
+  same_throughout before same = record {
+    size = held_throughout (λ file. size_of file ≡ Some before.size) (λ none. absurd (cc none)) same.size;
+    bytes = λ k below.
+        let one : SeesByte c k = same.bytes k below in record {
+          byte = one.byte;
+          mine = shown_throughout (λ moment. HasByte k one.byte (bytes_at moment c.path)) one.mine;
+          theirs = held_throughout (HasByte k one.byte) (λ none. none) one.theirs;
+        };
+  }
+
+  other_throughout : (before : Stat) → IsOther c before → IsOther throughout before
+  other_throughout before (inl size) = inl (record { number = size.number; had = held_throughout (λ file. size_of file ≡ Some size.number) (λ none. absurd (cc none)) size.had; other = size.other })
+  other_throughout before (inr other) =
+      inr (record {
+        place = other.place;
+        width = other.width;
+        mine = other.mine;
+        theirs = other.theirs;
+        pieces = record {
+          mine_was = shown_throughout (λ moment. HasPiece other.place other.width other.mine (bytes_at moment c.path)) other.pieces.mine_was;
+          theirs_was = held_throughout (HasPiece other.place other.width other.theirs) (λ none. none) other.pieces.theirs_was;
+        };
+        differ = other.differ;
+      })
+
+  compared_throughout : (row : FileRow) (before : Stat) (looked : Looked) → Compares c row before (Ok looked) → Compares throughout row before (Ok looked)
+  compared_throughout row before (a_look.Same settled) (alike, same, ends) = (alike, same_throughout before same, ends)
+  compared_throughout row before a_look.Differs (inl unlike) = inl unlike
+  compared_throughout row before a_look.Differs (inr (alike, other)) = inr (alike, other_throughout before other)
+  compared_throughout row before a_look.Gone (alike, nothing) = (alike, shown_throughout (λ moment. bytes_at moment c.path ≡ None) nothing)
+
+  -- what was compared decides whether the thing equals the row with the store's bytes
+  pub decides_in : (row : FileRow) (before : Stat) (looked : Looked) → tree.Passes c.tree_old c.tree_new → Compares c row before (Ok looked) → IsTrue c.tree_old.told → StaysShown c.tree_old c.tree_new c.path
+      → stat_at (tree.now c.tree_old) c.path ≡ Some before → Decides (is_unchanged (Some (parent_row row (store c.name))) ((tree.now c.tree_old).things c.path)) (store c.name) (Ok looked)
+  decides_in row before looked passes seen told shown stat =
+      decides throughout row before (store c.name) (Ok looked) passes (compared_throughout row before looked seen) told held shown (λ k during. refl) stat
+
+  some_of : (file : Option (List ℕ)) (size : ℕ) → size_of file ≡ Some size → is_some file ≡ true
+  some_of None size is = absurd (cc is)
+  some_of (Some bytes) size is = refl
+
+  -- the file of a row that is alike was there, so the store has it
+  pub there_in : (row : FileRow) (before : Stat) (looked : Looked) → tree.Passes c.tree_old c.tree_new → Compares c row before (Ok looked) → IsTrue c.tree_old.told → StaysShown c.tree_old c.tree_new c.path
+      → stat_at (tree.now c.tree_old) c.path ≡ Some before → is_alike row before ≡ true → is_some (store c.name) ≡ true
+  there_in row before (a_look.Same settled) passes seen told shown stat alike =
+      some_of (store c.name) before.size (was_in store c.shelf_old c.shelf_new c.name (λ file. size_of file ≡ Some before.size) held stays (λ none. absurd (cc none)) seen.1.size)
+  there_in row before a_look.Differs passes (inl unlike) told shown stat alike = absurd (cc (unlike, alike))
+  there_in row before a_look.Differs passes (inr (same, inl size)) told shown stat alike =
+      some_of (store c.name) size.number (was_in store c.shelf_old c.shelf_new c.name (λ file. size_of file ≡ Some size.number) held stays (λ none. absurd (cc none)) size.had)
+  there_in row before a_look.Differs passes (inr (same, inr other)) told shown stat alike =
+      by (store c.name) (was_in store c.shelf_old c.shelf_new c.name (HasPiece other.place other.width other.theirs) held stays (λ none. none) other.pieces.theirs_was)
+    where
+      by : (file : Option (List ℕ)) → HasPiece other.place other.width other.theirs file → is_some file ≡ true
+      by None none = absurd none
+      by (Some bytes) is = refl
+  there_in row before a_look.Gone passes seen told shown stat alike = absurd (decides_in row before a_look.Gone passes seen told shown stat)

@@ -7,3 +7,4 @@ pub mod Deciding
 pub mod Moments
 pub mod Settled
 pub mod Spans
+pub mod Theirs

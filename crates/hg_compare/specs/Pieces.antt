@@ -1,5 +1,5 @@
 -- The steps of a comparison.
-use Rattle.std.specs.Prelude.{ℕ, ◌≡◌, ◌≤◌, ◌<◌, Bool, true, false, ◌⊎◌, List, [], ◌∷◌, ◌++◌, length, replicate, take, Option, Some, None, Result, Ok, Err, IsTrue}
+use Rattle.std.specs.Prelude.{ℕ, ◌≡◌, ◌≤◌, ◌<◌, ◌+◌, ◌*◌, Bool, true, false, ◌⊎◌, List, [], ◌∷◌, ◌++◌, length, replicate, take, Option, Some, None, Result, Ok, Err, IsTrue}
 use Rattle.hg_base.specs.Fault.{Rose}
 use Rattle.hg_base.specs.declared.id.Id20.{Id20}
 use Rattle.hg_base.specs.declared.stat.Stat.{Stat}
@@ -9,7 +9,7 @@ use Rattle.hg_tree.specs.Moment.{bytes_at, stat_at}
 use Rattle.hg_tree.specs.declared.asked.Asked.TheVariants as an_ask
 use Rattle.hg_shelf.specs.declared.asked.Asked.TheVariants as a_shelf_ask
 use Rattle.hg_compare.specs.Alike.{Settles}
-use Rattle.hg_compare.specs.Same.{InPieces}
+use Rattle.hg_compare.specs.Same.{pieces_from}
 use Rattle.hg_compare.specs.Seen.{Compared, HasOtherSize, HasPiece, HasSize, Holds, SeesNothing, SeesOther, SeesPiece, SeesSame}
 use Rattle.hg_compare.specs.declared.fault.CompareFault.{CompareFault}
 use Rattle.hg_compare.specs.declared.fault.CompareFault.TheVariants as a_fault
@@ -68,13 +68,11 @@ pub record Once {A : Type 0} (ask : A) (old new : List A) : Type 0 where
 abbrev pub ReadsOnce : List ℕ → tree.History → tree.History → Type 0
 ReadsOnce path old new = Once (an_ask.Read path) old.asked new.asked
 
--- so were the contents
-abbrev pub ReadsTheirsOnce : List ℕ → shelf.History → shelf.History → Type 0
-ReadsTheirsOnce name old new = Once (a_shelf_ask.Read name) old.asked new.asked
-
--- the contents were read piece by piece
-abbrev pub ReadsTheirs : ℕ → List ℕ → shelf.History → shelf.History → Type 0
-ReadsTheirs size name old new = InPieces size (a_shelf_ask.Read name) old.asked new.asked
+-- the contents of this size were read piece by piece, in no more pieces than they have
+pub record ReadsTheirs (size : ℕ) (name : List ℕ) (old new : shelf.History) : Type 0 where
+  pub pieces : ℕ
+  pub few : 65536 * pieces < size + 65536
+  pub asked : new.asked ≡ old.asked ++ pieces_from size name 0 pieces
 
 -- the size of the contents was asked for
 abbrev pub AsksSize : List ℕ → shelf.History → shelf.History → Result Bool CompareFault → Type 0

@@ -1,11 +1,12 @@
 -- What a comparison of a path with a row of the first parent answers.
-use Rattle.std.specs.Prelude.{ℕ, ◌≡◌, ◌+◌, ◌*◌, ◌<◌, ◌⊎◌, Bool, true, false, List, ◌∷◌, ◌++◌, replicate, Option, Some, None, Result, Ok, Err, IsTrue}
+use Rattle.std.specs.Prelude.{ℕ, zero, suc, ◌≡◌, ◌+◌, ◌-◌, ◌*◌, ◌<◌, ◌≤◌, ◌⊎◌, min, Bool, true, false, List, [], ◌∷◌, ◌++◌, replicate, Option, Some, None, Result, Ok, Err, IsTrue}
 use Rattle.hg_base.specs.declared.stat.Stat.{Stat}
 use Rattle.hg_manifest.specs.declared.row.FileRow.{FileRow}
 use Rattle.hg_tree.specs.History.{History, now}
 use Rattle.hg_tree.specs.Moment.{bytes_at, stat_at}
 use Rattle.hg_tree.specs.Still.{Keeps}
 use Rattle.hg_tree.specs.declared.asked.Asked.TheVariants as an_ask
+use Rattle.hg_shelf.specs.declared.asked.Asked.{Asked}
 use Rattle.hg_shelf.specs.declared.asked.Asked.TheVariants as a_shelf_ask
 use Rattle.hg_compare.specs.Alike.{Settles, is_alike}
 use Rattle.hg_compare.specs.Seen.{Compared, HasOtherSize, HasSize, Holds, SeesNothing, SeesOther, SeesSame}
@@ -51,12 +52,28 @@ pub record InPieces {A : Type 0} (size : ℕ) (ask : A) (old new : List A) : Typ
 abbrev pub Reads : ℕ → List ℕ → History → History → Type 0
 Reads size path old new = InPieces size (an_ask.Read path) old.asked new.asked
 
+-- a piece of contents of this size, by its number: at most 65,536 bytes, from a multiple of these on
+abbrev pub piece_ask : ℕ → List ℕ → ℕ → Asked
+piece_ask size name k = a_shelf_ask.Read name (65536 * k) (min (size - 65536 * k) 65536)
+
+-- so many pieces, one behind another
+abbrev pub pieces_from : ℕ → List ℕ → ℕ → ℕ → List Asked
+pieces_from size name k zero = []
+pieces_from size name k (suc n) = piece_ask size name k ∷ pieces_from size name (suc k) n
+
+-- a read of a piece of contents, of whatever size
+pub record IsPieceOf (name : List ℕ) (ask : Asked) : Type 0 where
+  pub number : ℕ
+  pub width : ℕ
+  pub few : width ≤ 65536
+  pub is : ask ≡ a_shelf_ask.Read name (65536 * number) width
+
 -- the size of the contents was asked for, and behind it the contents piece by piece, where they had the size of the first look
 pub record AsksContents (c : Compared) (size : ℕ) : Type 0 where
   pub pieces : ℕ
   pub few : 65536 * pieces < size + 65536
   pub sized : (pieces ≡ 0) ⊎ HasSize c size
-  pub asked : c.shelf_new.asked ≡ c.shelf_old.asked ++ a_shelf_ask.Size c.name ∷ replicate pieces (a_shelf_ask.Read c.name)
+  pub asked : c.shelf_new.asked ≡ c.shelf_old.asked ++ a_shelf_ask.Size c.name ∷ pieces_from size c.name 0 pieces
 
 -- a shelf that failed may not have noted that it was asked
 abbrev pub AsksOrFails : Compared → ℕ → Result Looked CompareFault → Type 0

@@ -1,9 +1,11 @@
 //! One piece of the bytes that are compared.
 
-ghost use Rattle.std.specs.Prelude.{◌≡◌, IsTrue, length};
-ghost use Rattle.hg_compare.specs.Pieces.{ComparesPiece, CountsShelf, CountsTree, ReadsOnce, ReadsTheirsOnce, TakesMine, TakesTheirs};
+ghost use Rattle.std.specs.Prelude.{◌≡◌, ◌∷◌, [], IsTrue, length};
+ghost use Rattle.hg_compare.specs.Pieces.{ComparesPiece, CountsShelf, CountsTree, ReadsOnce, TakesMine, TakesTheirs};
+ghost use Rattle.hg_shelf.specs.Asks.{AsksInOrder};
 ghost use Rattle.hg_shelf.specs.History as shelves;
 ghost use Rattle.hg_shelf.specs.Images.{Goes, course};
+ghost use Rattle.hg_shelf.specs.declared.asked.Asked.TheVariants as a_shelf_ask;
 ghost use Rattle.hg_tree.specs.History as trees;
 
 use crate::fault::CompareFault;
@@ -34,7 +36,11 @@ fn read_theirs<S: Shelf>(
     ensures passes { shelves.Passes (S.history shelf.old) (S.history shelf.new) }
     ensures kept { Goes (course (S.history shelf.old) (S.images shelf.old)) (course (S.history shelf.new) (S.images shelf.new)) }
     ensures held { S.held shelf.new ≡ S.held shelf.old }
-    ensures asked { IsTrue (S.history shelf.old).told → ReadsTheirsOnce name.now (S.history shelf.old) (S.history shelf.new) }
+    ensures asked { IsTrue (S.history shelf.old).told → AsksInOrder
+        (a_shelf_ask.Read name.now place (length room.old) ∷ [])
+        (S.history shelf.old)
+        (S.history shelf.new)
+        result }
     ensures found { TakesTheirs (S.history shelf.new) name.now id place (length room.old) room.new result }
     ensures count { CountsShelf (S.faults shelf.old) (S.faults shelf.new) result }
 {
@@ -93,7 +99,11 @@ pub(crate) fn same_piece<T: Tree, S: Shelf>(
         place
         (length mine.old)
         result }
-    ensures shelf_asked { IsTrue (S.history shelf.old).told → ReadsTheirsOnce name.now (S.history shelf.old) (S.history shelf.new) }
+    ensures shelf_asked { IsTrue (S.history shelf.old).told → AsksInOrder
+        (a_shelf_ask.Read name.now place (length theirs.old) ∷ [])
+        (S.history shelf.old)
+        (S.history shelf.new)
+        result }
     ensures asked { IsTrue (T.history tree.old).told → ReadsOnce path.entry.text.now (T.history tree.old) (T.history tree.new) }
     ensures tree_count { CountsTree (T.faults tree.old) (T.faults tree.new) result }
     ensures shelf_count { CountsShelf (S.faults shelf.old) (S.faults shelf.new) result }

@@ -136,7 +136,11 @@ fn tell(shelf: &MemShelf, answer: &mut String) -> Result<(), Fail> {
     for ask in shelf.asked() {
         match ask {
             Asked::Size { name } => write!(answer, " size {}", name.as_str())?,
-            Asked::Read { name } => write!(answer, " read {}", name.as_str())?,
+            Asked::Read {
+                name,
+                place,
+                length,
+            } => write!(answer, " read {} {} {}", name.as_str(), *place, *length)?,
         }
     }
     for call in shelf.locks() {
@@ -290,11 +294,11 @@ fn takes_the_lock_and_lets_others_act(rt: HostRuntime) -> Result<(), Fail> {
     agree::<Shelves>(rt.alloc(), "", LOCKS)
 }
 
-// Only sizes and reads are told by their names, and calls of the lock with the last moment at their end.
+// Only sizes and reads are told by their names, reads with their place and length, and calls of the lock with the last moment at their end.
 const TELLS: &str = r"
 tell =>
-mute size one; mute read two 0; mute size one; tell => size one read two size one
-fail 0; fail 1; mute size one; mute read one 0; tell => size one read one
+mute size one; mute read two 0; mute size one; tell => size one read two 0 4 size one
+fail 0; fail 1; mute size one; mute read one 3; tell => size one read one 3 4
 mute write one 0 a; mute sync one; mute rename one two; mute sync_names; mute remove two; tell =>
 mute lock; mute write one 0 a; mute unlock; tell => Taken at 0 GivenBack at 1
 hold true; mute lock; hold false; mute lock; tell => Refused at 0 Taken at 0

@@ -24,7 +24,7 @@ use Rattle.hg_flat.proofs.Asks.{asks_none, reads_none}
 during_longer : (a b c : History) → Extends b c → FileDuring a b → FileDuring a c
 during_longer a b c second (k, from, to, has) = (k, from, omega (arith, to, second.later), ap has_file (second.stay k to) ∙ has)
 
-read_longer : (wanted : Wanted) (a b c : History) (first : List Asked) → Extends b c → IsPatternsRead wanted a b first → IsPatternsRead wanted a c first
+pub read_longer : (wanted : Wanted) (a b c : History) (first : List Asked) → Extends b c → IsPatternsRead wanted a b first → IsPatternsRead wanted a c first
 read_longer wanted a b c first second (inl none) = inl none
 read_longer wanted a b c first second (inr (needed, (during, is))) = inr (needed, (during_longer a b c second during, is))
 

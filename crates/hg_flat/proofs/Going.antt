@@ -38,4 +38,4 @@ goes_loaded s copy later old new parent loaded first second goes is whole = reco
 
 -- what was asked so far
 pub goes_store : (s : Status) (copy : trees.History) (files : shelves.History) (parent : Parent) → Proceeds (upto s copy files) parent → IsTrue s.shelf_old.told → AsksStore (upto s copy files)
-goes_store s copy files parent goes told = store_of (upto s copy files) parent.loaded (goes.asked told)
+goes_store s copy files parent goes told = store_of (upto s copy files) parent.loaded goes.shelf (goes.asked told)

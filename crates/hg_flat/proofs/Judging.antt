@@ -1,5 +1,5 @@
 -- The rows of tracked paths by any test of which paths are compared: one entry behind another, and over longer spans.
-use Rattle.std.proofs.Common.{ℕ, ◌≡◌, ◌≤◌, ◌&&◌, Bool, List, [], ◌∷◌, ◌++◌, Option, refl, sym, ap, ◌∙◌, subst}
+use Rattle.std.proofs.Common.{ℕ, ◌≡◌, ◌&&◌, Bool, List, [], ◌∷◌, ◌++◌, Option, refl, sym, ap, ◌∙◌, subst}
 use Rattle.std.specs.Prelude.{is_some}
 use Rattle.std.proofs.lemmas.List.{append-nil, append_assoc}
 use Rattle.hg_base.specs.declared.id.Id20.{Id20}
@@ -32,16 +32,16 @@ marks_alike wanted flat m n path alike = ap (λ (b : Bool). is_compared wanted f
 
 -- ---- what is left over a span is left over its parts
 
-pub left_begun : (asks : Asking) (id : Id20) (old mid new : trees.History) → trees.Extends old mid → trees.Extends mid new → (files later : shelves.History) (since : ℕ) → shelves.Extends files later → since ≤ files.last → (path : List ℕ)
-    → IsLeftAsked asks id new old.last later since path → IsLeftAsked asks id mid old.last files since path
-left_begun asks id old mid new first second files later since past within path is = record {
+pub left_begun : (store : shelves.Files) (asks : Asking) (id : Id20) (old mid new : trees.History) → trees.Extends old mid → trees.Extends mid new → (files later : shelves.History) (since : ℕ) → shelves.Extends files later → (path : List ℕ)
+    → IsLeftAsked store asks id new old.last later since path → IsLeftAsked store asks id mid old.last files since path
+left_begun store asks id old mid new first second files later since past path is = record {
   own = untouched_first mid new old.last path second first.later is.own;
-  row = λ asked. row_earlier files later since id path past within (is.row (subst (λ (m : Moment). IsAsked asks m path) (sym (second.stay old.last first.later)) asked));
+  row = λ asked. row_earlier store files later since id path past (is.row (subst (λ (m : Moment). IsAsked asks m path) (sym (second.stay old.last first.later)) asked));
 }
 
-pub left_ended : (asks : Asking) → AsksAlike asks → (id : Id20) (old mid new : trees.History) → trees.Extends old mid → trees.Extends mid new → (later : shelves.History) (since : ℕ) (path : List ℕ)
-    → IsLeftAsked asks id new old.last later since path → IsLeftAsked asks id new mid.last later since path
-left_ended asks same id old mid new first second later since path is = record {
+pub left_ended : (store : shelves.Files) (asks : Asking) → AsksAlike asks → (id : Id20) (old mid new : trees.History) → trees.Extends old mid → trees.Extends mid new → (later : shelves.History) (since : ℕ) (path : List ℕ)
+    → IsLeftAsked store asks id new old.last later since path → IsLeftAsked store asks id new mid.last later since path
+left_ended store asks same id old mid new first second later since path is = record {
   own = untouched_second new old.last mid.last path first.later second.later is.own;
   row = λ asked. is.row (sym (same (new.at mid.last) (new.at old.last) path (alike_at new old.last mid.last path first.later second.later is.own)) ∙ asked);
 }
@@ -92,16 +92,16 @@ adds_trans asks Q S files id m wanted xs ys a b c (more, is, put) (again, also, 
 
 -- rows that were put in the first part of a span, and others in the second, were put in the span
 pub adds_more : (asks : Asking) → AsksAlike asks → (P Q R : Type 0) → (R → P) → (R → Q) → (wanted : Wanted) (id : Id20) (old mid new : trees.History) → trees.Extends old mid → trees.Extends mid new → (files later : shelves.History) (since : ℕ)
-    → shelves.Extends files later → since ≤ files.last → (start : shelves.Files) (xs ys : List FlatRow) (a b c : List Row)
-    → AddsBy asks P (IsLeftAsked asks id mid old.last files since) start id (trees.now old) wanted xs a b
-    → AddsBy asks Q (IsLeftAsked asks id new mid.last later since) start id (trees.now mid) wanted ys b c
-    → AddsBy asks R (IsLeftAsked asks id new old.last later since) start id (trees.now old) wanted (xs ++ ys) a c
-adds_more asks same P Q R one_premise two_premise wanted id old mid new first second files later since past within start xs ys a b c before one =
-    adds_trans asks R (IsLeftAsked asks id new old.last later since) start id (trees.now old) wanted xs ys a b c
-    (adds_moved asks same P R one_premise (IsLeftAsked asks id mid old.last files since) (IsLeftAsked asks id new old.last later since) start id (trees.now old) (trees.now old) wanted xs a b
-    (left_begun asks id old mid new first second files later since past within) (λ path t. alike_same (trees.now old) path) before)
-    (adds_moved asks same Q R two_premise (IsLeftAsked asks id new mid.last later since) (IsLeftAsked asks id new old.last later since) start id (trees.now mid) (trees.now old) wanted ys b c
-    (left_ended asks same id old mid new first second later since) (λ path t. alike_between old mid new path first second t.own) one)
+    → shelves.Extends files later → (store : shelves.Files) (xs ys : List FlatRow) (a b c : List Row)
+    → AddsBy asks P (IsLeftAsked store asks id mid old.last files since) store id (trees.now old) wanted xs a b
+    → AddsBy asks Q (IsLeftAsked store asks id new mid.last later since) store id (trees.now mid) wanted ys b c
+    → AddsBy asks R (IsLeftAsked store asks id new old.last later since) store id (trees.now old) wanted (xs ++ ys) a c
+adds_more asks same P Q R one_premise two_premise wanted id old mid new first second files later since past store xs ys a b c before one =
+    adds_trans asks R (IsLeftAsked store asks id new old.last later since) store id (trees.now old) wanted xs ys a b c
+    (adds_moved asks same P R one_premise (IsLeftAsked store asks id mid old.last files since) (IsLeftAsked store asks id new old.last later since) store id (trees.now old) (trees.now old) wanted xs a b
+    (left_begun store asks id old mid new first second files later since past) (λ path t. alike_same (trees.now old) path) before)
+    (adds_moved asks same Q R two_premise (IsLeftAsked store asks id new mid.last later since) (IsLeftAsked store asks id new old.last later since) store id (trees.now mid) (trees.now old) wanted ys b c
+    (left_ended store asks same id old mid new first second later since) (λ path t. alike_between old mid new path first second t.own) one)
 
 -- ---- a letter by marks
 

@@ -1,11 +1,14 @@
 pub mod Alike
 pub mod Alone
 pub mod Among
+pub mod Arriving
 pub mod Ascending
 pub mod Asking
 pub mod Asks
 pub mod Calls
+pub mod Deciding
 pub mod Faces
+pub mod First
 pub mod Fullness
 pub mod Going
 pub mod Holding
@@ -16,6 +19,7 @@ pub mod Letters
 pub mod Manifests
 pub mod Meeting
 pub mod Moved
+pub mod Needing
 pub mod Recording
 pub mod Refusing
 pub mod Rooms

@@ -5,16 +5,16 @@ use Rattle.hg_base.specs.declared.id.Id20.{Id20}
 use Rattle.hg_base.specs.declared.stat.Stat.{Stat}
 use Rattle.hg_tree.specs.History as trees
 use Rattle.hg_shelf.specs.History as shelves
-use Rattle.hg_shelf.specs.Polite.{KeepsFile}
+use Rattle.hg_shelf.specs.Polite.{StaysIn}
 use Rattle.hg_shelf.specs.Reads.{size_of}
 use Rattle.hg_shelf.proofs.Histories as shelf
-use Rattle.hg_manifest.specs.Load.{Finds, IsFrontOf, Reads, Stays, Was, file_at, file_manifest, manifest_in}
+use Rattle.hg_manifest.specs.Load.{Finds, IsFrontOf, Reads, Was, file_manifest, manifest_in}
 use Rattle.hg_manifest.specs.Plain.{is_null, plain_name}
 use Rattle.hg_manifest.specs.Rows.{Rows}
 use Rattle.hg_manifest.specs.declared.fault.ManifestFault.{ManifestFault}
 use Rattle.hg_manifest.specs.declared.fault.ManifestFault.TheVariants as a_manifest_fault
 use Rattle.hg_manifest.specs.declared.row.FileRow.{FileRow}
-use Rattle.hg_manifest.proofs.Loads.{complete}
+use Rattle.hg_manifest.proofs.Loads.{read_in}
 use Rattle.hg_compare.specs.Alike.{contents_name}
 use Rattle.hg_compare.specs.Same.{parent_row}
 use Rattle.hg_compare.specs.declared.looked.Looked.{Looked}
@@ -42,15 +42,9 @@ was_later old mid new name P first was = record {
   so = λ told. was.so (first.past.told ∙ told);
 }
 
--- the files of a moment stay
-pub files_then : (start new : shelves.History) → shelves.Passes start new → (new.at start.last).files ≡ (shelves.now start).files
-files_then start new passes = (passes.past.stay start.last (omega arith)).shown
-
--- a file that is kept from the start of a status stays over a part of it
-pub keeps_stays : (start old new : shelves.History) (name : List ℕ) → shelves.Passes start old → shelves.Passes old new → KeepsFile new start.last name → Stays old new name ((shelves.now start).files name)
-keeps_stays start old new name first second keeps k during =
-    keeps k (omega (arith, first.past.later, during.from)) during.to
-    ∙ ap (λ (f : shelves.Files). f name) (files_then start new (shelf.passes_trans start old new first second))
+-- a file that is a store's from the start of a status on is so over a part of it
+stays_part : (store : shelves.Files) (start old new : shelves.History) (name : List ℕ) → shelves.Passes start old → StaysIn store new start.last name → StaysIn store new old.last name
+stays_part store start old new name first stays k from to bytes is = stays k (omega (arith, first.past.later, from)) to bytes is
 
 -- ---- what was read of a manifest
 
@@ -132,95 +126,70 @@ load_failed s old new id fault answer failed first second same null found = by (
 
 -- ---- a comparison with the parent
 
--- the manifest that is kept is that of the start
-pub manifest_then : (s : Status) (rows : Rows) (path : List ℕ) → shelves.Passes s.shelf_old s.shelf_new → KeepsRow s.shelf_new s.shelf_old.last s.id path → IsManifest s rows → manifest_at (shelves.now s.shelf_old).files s.id ≡ Ok rows
-manifest_then s rows path passes keeps is = by (is_null s.id.0) refl is
+-- the manifest that is kept is that of the store
+pub manifest_then : (store : shelves.Files) (s : Status) (rows : Rows) (path : List ℕ) → shelves.Passes s.shelf_old s.shelf_new → KeepsRow store s.shelf_new s.shelf_old.last s.id path → IsManifest s rows → manifest_at store s.id ≡ Ok rows
+manifest_then store s rows path passes keeps is = by (is_null s.id.0) refl is
   where
     name : List ℕ
     name = plain_name s.id.0
 
-    file : Option (List ℕ)
-    file = (shelves.now s.shelf_old).files name
-
-    by : (b : Bool) → is_null s.id.0 ≡ b → MatchBool b (rows ≡ []) (WasRead s (Ok rows)) → manifest_in s.id file ≡ Ok rows
-    by true null none = ap (λ (t : Bool). cond t (Ok []) (file_manifest s.id file)) null ∙ ap Ok (sym none)
+    by : (b : Bool) → is_null s.id.0 ≡ b → MatchBool b (rows ≡ []) (WasRead s (Ok rows)) → manifest_in s.id (store name) ≡ Ok rows
+    by true null none = ap (λ (t : Bool). cond t (Ok []) (file_manifest s.id (store name))) null ∙ ap Ok (sym none)
     by false some read =
         let told : IsTrue s.shelf_old.told = sym passes.past.told ∙ keeps.told in
-        let stays : Stays s.shelf_old s.shelf_new name file = keeps_stays s.shelf_old s.shelf_old s.shelf_new name (shelf.passes_same s.shelf_old) passes (keeps.manifest some) in
-        let last : file_at s.shelf_new name read.front.at ≡ file_at s.shelf_new name s.shelf_new.last =
-        stays read.front.at (read.front.during told) ∙ sym (stays s.shelf_new.last (record { from = passes.past.later; to = omega arith })) in
-        let reads : Reads s.shelf_old s.shelf_new name (Ok rows) =
-        record {
-          bytes = read.bytes;
-          took = record {
-            size = read.size;
-            few = read.few;
-            short = read.short;
-            sized = read.sized;
-            front = λ known. subst (IsFrontOf read.size read.bytes) last (read.front.so told);
-          };
-          found = read.found;
-        }
-        in complete s.shelf_old s.shelf_new 0 0 name s.id (Ok rows) passes some reads refl file told stays (refl, omega arith)
+        read_in store s.shelf_old s.shelf_new name s.id read.size read.bytes (Ok rows) told (keeps.manifest some) some read.few read.short read.sized read.front read.found
 
 if_some_map : {A : Type 0} (o : Option A) (P Q : A → Type 0) → ((a : A) → P a → Q a) → IfSome o P → IfSome o Q
 if_some_map None P Q goes is = tt
 if_some_map (Some a) P Q goes is = goes a is
 
 -- the contents of its row are kept
-contents_kept : (s : Status) (rows : Rows) (path : List ℕ) → shelves.Passes s.shelf_old s.shelf_new → KeepsRow s.shelf_new s.shelf_old.last s.id path → manifest_at (shelves.now s.shelf_old).files s.id ≡ Ok rows
-    → IfSome (row_of rows path) (λ row. KeepsFile s.shelf_new s.shelf_old.last (contents_name row.id.0))
-contents_kept s rows path passes keeps formed =
-    subst (λ (r : Result Rows ManifestFault). IfSome (row_among r path) (λ row. KeepsFile s.shelf_new s.shelf_old.last (contents_name row.id.0))) formed
-    (subst (λ (f : shelves.Files). IfSome (row_among (manifest_at f s.id) path) (λ row. KeepsFile s.shelf_new s.shelf_old.last (contents_name row.id.0))) (files_then s.shelf_old s.shelf_new passes) keeps.contents)
+contents_kept : (store : shelves.Files) (s : Status) (rows : Rows) (path : List ℕ) → KeepsRow store s.shelf_new s.shelf_old.last s.id path → manifest_at store s.id ≡ Ok rows
+    → IfSome (row_of rows path) (λ row. StaysIn store s.shelf_new s.shelf_old.last (contents_name row.id.0))
+contents_kept store s rows path keeps formed =
+    subst (λ (r : Result Rows ManifestFault). IfSome (row_among r path) (λ row. StaysIn store s.shelf_new s.shelf_old.last (contents_name row.id.0))) formed keeps.contents
+
+-- so they are over a part
+contents_part : (store : shelves.Files) (s : Status) (later : trees.History) (old new : shelves.History) (rows : Rows) (path : List ℕ) → shelves.Passes s.shelf_old old → KeepsRow store new s.shelf_old.last s.id path → manifest_at store s.id ≡ Ok rows
+    → IfSome (row_of rows path) (λ row. StaysIn store new old.last (contents_name row.id.0))
+contents_part store s later old new rows path first keeps formed =
+    if_some_map (row_of rows path) (λ row. StaysIn store new s.shelf_old.last (contents_name row.id.0)) (λ row. StaysIn store new old.last (contents_name row.id.0))
+    (λ row kept. stays_part store s.shelf_old old new (contents_name row.id.0) first kept) (contents_kept store (upto s later new) rows path keeps formed)
 
 -- the letter by a manifest is that by the parent
-pub found_letter : (s : Status) (copy later : trees.History) (old new : shelves.History) (rows : Rows) (path : List ℕ) (before : Stat) (result : Result Looked StatusFault)
-    → shelves.Passes s.shelf_old old → shelves.Passes old new → IsManifest (upto s later new) rows → KeepsRow new s.shelf_old.last s.id path
-    → ((files : shelves.Files) → IsTrue old.told → IfSome (row_of rows path) (λ row. Stays old new (contents_name row.id.0) (files (contents_name row.id.0)))
+pub found_letter : (store : shelves.Files) (s : Status) (copy later : trees.History) (old new : shelves.History) (rows : Rows) (path : List ℕ) (before : Stat) (result : Result Looked StatusFault)
+    → shelves.Passes s.shelf_old old → shelves.Passes old new → IsManifest (upto s later new) rows → KeepsRow store new s.shelf_old.last s.id path
+    → ((files : shelves.Files) → IsTrue old.told → IfSome (row_of rows path) (λ row. StaysIn files new old.last (contents_name row.id.0))
     → IfOk result (λ looked. IsJudged files (row_of rows path) (trees.now copy) path (letter_of looked)))
-    → IfOk result (λ looked. IsFound (shelves.now s.shelf_old).files s.id (trees.now copy) path (letter_of looked))
-found_letter s copy later old new rows path before (Err fault) first second is keeps judged = tt
-found_letter s copy later old new rows path before (Ok looked) first second is keeps judged = record {
+    → IfOk result (λ looked. IsFound store s.id (trees.now copy) path (letter_of looked))
+found_letter store s copy later old new rows path before (Err fault) first second is keeps judged = tt
+found_letter store s copy later old new rows path before (Ok looked) first second is keeps judged = record {
   letter_is =
       j.letter_is
-      ∙ ap (λ (r : Result Rows ManifestFault). compared_letter (option_map (λ row. parent_row row ((shelves.now s.shelf_old).files (contents_name row.id.0))) (row_among r path)) ((trees.now copy).things path)) (sym formed);
+      ∙ ap (λ (r : Result Rows ManifestFault). compared_letter (option_map (λ row. parent_row row (store (contents_name row.id.0))) (row_among r path)) ((trees.now copy).things path)) (sym formed);
   served = record { rows = rows; formed = formed; contents = j.contents };
 }
   where
-    passes : shelves.Passes s.shelf_old new
-    passes = shelf.passes_trans s.shelf_old old new first second
+    formed : manifest_at store s.id ≡ Ok rows
+    formed = manifest_then store (upto s later new) rows path (shelf.passes_trans s.shelf_old old new first second) keeps is
 
-    formed : manifest_at (shelves.now s.shelf_old).files s.id ≡ Ok rows
-    formed = manifest_then (upto s later new) rows path passes keeps is
-
-    j : IsJudged (shelves.now s.shelf_old).files (row_of rows path) (trees.now copy) path (letter_of looked)
-    j =
-        judged (shelves.now s.shelf_old).files (sym second.past.told ∙ keeps.told)
-        (if_some_map (row_of rows path) (λ row. KeepsFile new s.shelf_old.last (contents_name row.id.0)) (λ row. Stays old new (contents_name row.id.0) ((shelves.now s.shelf_old).files (contents_name row.id.0)))
-        (λ row kept. keeps_stays s.shelf_old old new (contents_name row.id.0) first second kept)
-        (contents_kept (upto s later new) rows path passes keeps formed))
+    j : IsJudged store (row_of rows path) (trees.now copy) path (letter_of looked)
+    j = judged store (sym second.past.told ∙ keeps.told) (contents_part store s later old new rows path first keeps formed)
 
 -- what was compared with a manifest was compared with the parent
-pub found_compared : (s : Status) (copy later : trees.History) (old new : shelves.History) (rows : Rows) (path : List ℕ) (before : Stat) (looked : Looked) → shelves.Passes s.shelf_old old → shelves.Passes old new → IsManifest (upto s later new) rows
-    → KeepsRow new s.shelf_old.last s.id path → ComparesFound path copy later old new (row_of rows path) before looked → IsComparedBy (upto s later new) copy path before looked
-found_compared s copy later old new rows path before looked first second is keeps compared = record {
+pub found_compared : (store : shelves.Files) (s : Status) (copy later : trees.History) (old new : shelves.History) (rows : Rows) (path : List ℕ) (before : Stat) (looked : Looked) → shelves.Passes s.shelf_old old → shelves.Passes old new
+    → IsManifest (upto s later new) rows → KeepsRow store new s.shelf_old.last s.id path → ComparesFound path copy later old new (row_of rows path) before looked → IsComparedBy store (upto s later new) copy path before looked
+found_compared store s copy later old new rows path before looked first second is keeps compared = record {
   found = row_of rows path;
   since = old;
   told = sym second.past.told ∙ keeps.told;
-  rows = ap (λ (r : Result Rows ManifestFault). option_map (λ row. parent_row row ((shelves.now s.shelf_old).files (contents_name row.id.0))) (row_among r path)) formed;
-  stays =
-      if_some_map (row_of rows path) (λ row. KeepsFile new s.shelf_old.last (contents_name row.id.0)) (λ row. Stays old new (contents_name row.id.0) ((shelves.now s.shelf_old).files (contents_name row.id.0)))
-      (λ row kept. keeps_stays s.shelf_old old new (contents_name row.id.0) first second kept)
-      (contents_kept (upto s later new) rows path passes keeps formed);
+  rows = ap (λ (r : Result Rows ManifestFault). option_map (λ row. parent_row row (store (contents_name row.id.0))) (row_among r path)) formed;
+  stays = contents_part store s later old new rows path first keeps formed;
   compared = compared;
 }
   where
-    passes : shelves.Passes s.shelf_old new
-    passes = shelf.passes_trans s.shelf_old old new first second
-
-    formed : manifest_at (shelves.now s.shelf_old).files s.id ≡ Ok rows
-    formed = manifest_then (upto s later new) rows path passes keeps is
+    formed : manifest_at store s.id ≡ Ok rows
+    formed = manifest_then store (upto s later new) rows path (shelf.passes_trans s.shelf_old old new first second) keeps is
 
 -- rows that have one were read, for a parent that isn't null
 pub read_some : (s : Status) (rows : Rows) (path : List ℕ) (row : FileRow) → row_of rows path ≡ Some row → IsManifest s rows → (is_null s.id.0 ≡ false) × WasRead s (Ok rows)
@@ -291,7 +260,8 @@ pub always_failed : {T E : Type 0} (r : Result T E) (P : Type 0) → P → IfErr
 always_failed (Ok x) P is = tt
 always_failed (Err e) P is = is
 
-pub ok_each : (r : Result Looked StatusFault) (A B C D E : Status → Type 0) (Q : Status → Looked → Type 0) → ((s : Status) → A s → B s → C s → D s → E s → IfOk r (Q s))
-    → IfOk r (λ looked. (s : Status) → A s → B s → C s → D s → E s → Q s looked)
+pub ok_each : (r : Result Looked StatusFault) (A B C D E : Status → shelves.Files → Type 0) (Q : Status → shelves.Files → Looked → Type 0)
+    → ((s : Status) (store : shelves.Files) → A s store → B s store → C s store → D s store → E s store → IfOk r (Q s store))
+    → IfOk r (λ looked. (s : Status) (store : shelves.Files) → A s store → B s store → C s store → D s store → E s store → Q s store looked)
 ok_each (Ok looked) A B C D E Q each = each
 ok_each (Err fault) A B C D E Q each = tt

@@ -1,5 +1,5 @@
 -- What was met of the first parent behind a read of the patterns was met in the whole status.
-use Rattle.std.proofs.Common.{ℕ, ◌≡◌, true, Some, Result, Ok, Err, IsTrue, sym, ap, ◌∙◌, subst, arith}
+use Rattle.std.proofs.Common.{ℕ, ◌≡◌, true, List, Some, Result, Ok, Err, IsTrue, refl, sym, ap, ◌∙◌, subst, arith}
 use Rattle.std.specs.Prelude.{IfErr, IfOk, OnOk}
 use Rattle.hg_base.specs.declared.id.Id20.{Id20}
 use Rattle.hg_base.specs.declared.stat.Stat.{Stat}
@@ -13,6 +13,7 @@ use Rattle.hg_manifest.specs.declared.fault.ManifestFault.{ManifestFault}
 use Rattle.hg_manifest.specs.declared.fault.ManifestFault.TheVariants as a_manifest_fault
 use Rattle.hg_compare.specs.Alike.{is_alike}
 use Rattle.hg_flat.specs.Course.{LacksPatterns, MetParent}
+use Rattle.hg_flat.specs.First.{AreServedBefore, LacksAt, MetFirst}
 use Rattle.hg_flat.specs.Met.{LacksContents, Met, NeedsManifest, Shows, Status, WasRead}
 use Rattle.hg_flat.specs.Others.{IsOfListing}
 use Rattle.hg_flat.specs.Parent.{Asking, IsAsked}
@@ -22,6 +23,9 @@ use Rattle.hg_listing.specs.declared.fault.StatusFault.{StatusFault}
 use Rattle.hg_listing.specs.declared.fault.StatusFault.TheVariants as a_fault
 use Rattle.hg_listing.specs.declared.row.Wanted.{Wanted}
 use Rattle.hg_flat.proofs.Asking.{asked_later}
+use Rattle.hg_flat.proofs.Judging.{AsksAlike, left_ended}
+use Rattle.hg_flat.proofs.Tracking.{served_moved}
+use Rattle.hg_tree.proofs.Stillness.{alike_between}
 
 module _ (wanted : Wanted) (asks : Asking) (id : Id20) (start old new : trees.History) (first : trees.Passes start old) (files later : shelves.History) where
   abbrev part : Status
@@ -45,19 +49,46 @@ module _ (wanted : Wanted) (asks : Asking) (id : Id20) (start old new : trees.Hi
   needs_whole : NeedsManifest part → NeedsManifest whole
   needs_whole needs = record { path = needs.path; asked = asked_later asks start old new needs.path first.past needs.asked; committed = needs.committed }
 
-  lacks_whole : (gone : Id20) → LacksContents part gone → LacksContents whole gone
-  lacks_whole gone lacks = record {
-    path = lacks.path;
-    asked = asked_later asks start old new lacks.path first.past lacks.asked;
-    rows = lacks.rows;
-    read = read_whole (Ok lacks.rows) lacks.read;
-    row = lacks.row;
-    is = lacks.is;
-    names = lacks.names;
-    alike = shows_whole (λ moment. IsAsked asks moment lacks.path × (stat : Stat) × (stat_at moment lacks.path ≡ Some stat) × IsTrue (is_alike lacks.row stat)) lacks.alike;
-    absent = lacks.absent;
-    committed = lacks.committed;
-  }
+  lacks_at : (gone : Id20) (lacks : LacksContents part gone) → LacksAt whole lacks.path gone
+  lacks_at gone lacks = (
+    record {
+      path = lacks.path;
+      asked = asked_later asks start old new lacks.path first.past lacks.asked;
+      rows = lacks.rows;
+      read = read_whole (Ok lacks.rows) lacks.read;
+      row = lacks.row;
+      is = lacks.is;
+      names = lacks.names;
+      alike = shows_whole (λ moment. IsAsked asks moment lacks.path × (stat : Stat) × (stat_at moment lacks.path ≡ Some stat) × IsTrue (is_alike lacks.row stat)) lacks.alike;
+      absent = lacks.absent;
+      committed = lacks.committed;
+    },
+    refl,
+  )
+
+  -- what is the first in a part is the first in the whole, where the test asks the same of what is alike
+  module _ (same : AsksAlike asks) (second : trees.Extends old new) where
+    before_whole : (path : List ℕ) → AreServedBefore part path → AreServedBefore whole path
+    before_whole path served store other before left asked =
+        let alike = alike_between start old new other first.past second left.own in
+        served_moved store id (trees.now old) (trees.now start) other alike
+        (served store other before (left_ended store asks same id start old new first.past second later files.last other left) (same (trees.now old) (trees.now start) other alike ∙ asked))
+
+    pub first_whole : (fault : StatusFault) → MetFirst part fault → MetFirst whole fault
+    first_whole a_fault.OutOfMemory met = tt
+    first_whole a_fault.TreeFailed met = tt
+    first_whole a_fault.ShelfFailed met = tt
+    first_whole (a_fault.NoManifest gone) met = tt
+    first_whole (a_fault.ManifestTooLarge size) met = tt
+    first_whole (a_fault.ManifestLine line) met = tt
+    first_whole (a_fault.ManifestOrder line) met = tt
+    first_whole (a_fault.NoContents gone) met = let at = lacks_at gone met.lacks in record { lacks = at.0; before = subst (AreServedBefore whole) (sym at.1) (before_whole met.lacks.path met.before) }
+    first_whole (a_fault.IgnoreTooLarge size) met = tt
+    first_whole (a_fault.IgnoreText at) met = tt
+    first_whole (a_fault.BadGlob line) met = tt
+    first_whole (a_fault.BadRegexp line) met = tt
+    first_whole (a_fault.RegexpTooBig line) met = tt
+    first_whole (a_fault.BadInclude line) met = tt
 
   pub met_whole : (fault : StatusFault) → MetParent part fault → Met whole fault
   met_whole a_fault.OutOfMemory met = tt
@@ -67,7 +98,7 @@ module _ (wanted : Wanted) (asks : Asking) (id : Id20) (start old new : trees.Hi
   met_whole (a_fault.ManifestTooLarge size) met = (needs_whole met.0, met.1, met.2)
   met_whole (a_fault.ManifestLine line) met = (needs_whole met.0, read_whole (Err (a_manifest_fault.ManifestLine line)) met.1)
   met_whole (a_fault.ManifestOrder line) met = (needs_whole met.0, read_whole (Err (a_manifest_fault.ManifestOrder line)) met.1)
-  met_whole (a_fault.NoContents gone) met = lacks_whole gone met
+  met_whole (a_fault.NoContents gone) met = (lacks_at gone met).0
   met_whole (a_fault.IgnoreTooLarge size) met = absurd met
   met_whole (a_fault.IgnoreText at) met = absurd met
   met_whole (a_fault.BadGlob line) met = absurd met
@@ -125,6 +156,23 @@ met_patterns s (a_fault.BadRegexp line) needed lacks = (needed, lacks)
 met_patterns s (a_fault.RegexpTooBig line) needed lacks = (needed, lacks)
 met_patterns s (a_fault.BadInclude line) needed lacks = (needed, lacks)
 
+-- of no contents
+pub first_patterns : (s : Status) (fault : StatusFault) → LacksPatterns s.tree_old s.tree_new fault → MetFirst s fault
+first_patterns s a_fault.OutOfMemory lacks = tt
+first_patterns s a_fault.TreeFailed lacks = tt
+first_patterns s a_fault.ShelfFailed lacks = tt
+first_patterns s (a_fault.NoManifest gone) lacks = tt
+first_patterns s (a_fault.ManifestTooLarge size) lacks = tt
+first_patterns s (a_fault.ManifestLine line) lacks = tt
+first_patterns s (a_fault.ManifestOrder line) lacks = tt
+first_patterns s (a_fault.NoContents gone) lacks = absurd lacks
+first_patterns s (a_fault.IgnoreTooLarge size) lacks = tt
+first_patterns s (a_fault.IgnoreText at) lacks = tt
+first_patterns s (a_fault.BadGlob line) lacks = tt
+first_patterns s (a_fault.BadRegexp line) lacks = tt
+first_patterns s (a_fault.RegexpTooBig line) lacks = tt
+first_patterns s (a_fault.BadInclude line) lacks = tt
+
 -- it is none of the parent
 pub not_parent : (old new : trees.History) (fault : StatusFault) → LacksPatterns old new fault → is_of_parent fault ≡ true → ⊥
 not_parent old new a_fault.OutOfMemory lacks is = absurd (cc is)
@@ -152,6 +200,14 @@ pub met_listing : (s : Status) (fault : StatusFault) → IsOfListing fault → M
 met_listing s fault (cause, is) = subst (Met s) (sym is) (by cause)
   where
     by : (cause : TreeFault) → Met s (of_tree cause)
+    by a_tree_fault.OutOfMemory = tt
+    by a_tree_fault.Failed = tt
+
+-- and of no contents
+pub first_listing : (s : Status) (fault : StatusFault) → IsOfListing fault → MetFirst s fault
+first_listing s fault (cause, is) = subst (MetFirst s) (sym is) (by cause)
+  where
+    by : (cause : TreeFault) → MetFirst s (of_tree cause)
     by a_tree_fault.OutOfMemory = tt
     by a_tree_fault.Failed = tt
 

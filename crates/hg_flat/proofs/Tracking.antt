@@ -1,5 +1,5 @@
 -- The rows of paths with an entry: one entry behind another, and over longer spans.
-use Rattle.std.proofs.Common.{ℕ, ◌≡◌, ◌≤◌, Bool, true, false, List, [], ◌∷◌, ◌++◌, Option, Some, None, refl, sym, ap, ◌∙◌, subst, inl, inr, arith}
+use Rattle.std.proofs.Common.{ℕ, ◌≡◌, Bool, true, false, List, [], ◌∷◌, ◌++◌, Option, Some, None, refl, sym, ap, ◌∙◌, subst, inl, inr, arith}
 use Rattle.std.specs.Prelude.{IsTrue, IfSome, is_some}
 use Rattle.std.specs.List.{Contains}
 use Rattle.std.proofs.lemmas.List.{append-nil, append_assoc}
@@ -13,7 +13,7 @@ use Rattle.hg_tree.specs.Moment.{Moment}
 use Rattle.hg_tree.specs.Still.{AreAlike}
 use Rattle.hg_tree.proofs.Stillness.{alike_at, same_kind, untouched_second}
 use Rattle.hg_shelf.specs.History as shelves
-use Rattle.hg_shelf.specs.Polite.{KeepsFile}
+use Rattle.hg_shelf.specs.Polite.{StaysIn}
 use Rattle.hg_manifest.specs.Plain.{plain_name}
 use Rattle.hg_manifest.specs.declared.row.FileRow.{FileRow}
 use Rattle.hg_compare.specs.Alike.{contents_name, is_alike}
@@ -89,26 +89,25 @@ under_has wanted kept letter is = subst (λ (b : Bool). Contains (rows_if b (row
 
 -- ---- what is left over a span is left over its parts
 
-keeps_earlier : (mid new : shelves.History) (from : ℕ) (name : List ℕ) → shelves.Extends mid new → from ≤ mid.last → KeepsFile new from name → KeepsFile mid from name
-keeps_earlier mid new from name past within keeps k above upto =
-    sym (ap (λ (f : shelves.Files). f name) (past.stay k upto).shown) ∙ keeps k above (omega (arith, upto, past.later)) ∙ ap (λ (f : shelves.Files). f name) (past.stay from within).shown
+pub stays_earlier : (store : shelves.Files) (mid new : shelves.History) (from : ℕ) (name : List ℕ) → shelves.Extends mid new → StaysIn store new from name → StaysIn store mid from name
+stays_earlier store mid new from name past stays k above upto bytes is =
+    stays k above (omega (arith, upto, past.later)) bytes (ap (λ (f : shelves.Files). f name) (past.stay k upto).shown ∙ is)
 
 some_weaker : {A : Type 0} (o : Option A) (P Q : A → Type 0) → ((a : A) → P a → Q a) → IfSome o P → IfSome o Q
 some_weaker None P Q goes is = tt
 some_weaker (Some a) P Q goes is = goes a is
 
-pub row_earlier : (mid new : shelves.History) (from : ℕ) (id : Id20) (path : List ℕ) → shelves.Extends mid new → from ≤ mid.last → KeepsRow new from id path → KeepsRow mid from id path
-row_earlier mid new from id path past within keeps = record {
+pub row_earlier : (store : shelves.Files) (mid new : shelves.History) (from : ℕ) (id : Id20) (path : List ℕ) → shelves.Extends mid new → KeepsRow store new from id path → KeepsRow store mid from id path
+row_earlier store mid new from id path past keeps = record {
   told = sym past.told ∙ keeps.told;
-  manifest = λ some. keeps_earlier mid new from (plain_name id.0) past within (keeps.manifest some);
+  manifest = λ some. stays_earlier store mid new from (plain_name id.0) past (keeps.manifest some);
   contents =
-      subst (λ (f : shelves.Files). IfSome (row_among (manifest_at f id) path) (λ row. KeepsFile mid from (contents_name row.id.0))) (past.stay from within).shown
-      (some_weaker (row_among (manifest_at (new.at from).files id) path) (λ (row : FileRow). KeepsFile new from (contents_name row.id.0)) (λ (row : FileRow). KeepsFile mid from (contents_name row.id.0))
-      (λ row kept. keeps_earlier mid new from (contents_name row.id.0) past within kept) keeps.contents);
+      some_weaker (row_among (manifest_at store id) path) (λ (row : FileRow). StaysIn store new from (contents_name row.id.0)) (λ (row : FileRow). StaysIn store mid from (contents_name row.id.0))
+      (λ row kept. stays_earlier store mid new from (contents_name row.id.0) past kept) keeps.contents;
 }
 
-pub left_second : (wanted : Wanted) (id : Id20) (old mid new : trees.History) → trees.Extends old mid → trees.Extends mid new → (later : shelves.History) (since : ℕ) (k : FlatRow) → IsLeftRow wanted id new old.last later since k → IsLeftRow wanted id new mid.last later since k
-left_second wanted id old mid new first second later since k is = record {
+pub left_second : (store : shelves.Files) (wanted : Wanted) (id : Id20) (old mid new : trees.History) → trees.Extends old mid → trees.Extends mid new → (later : shelves.History) (since : ℕ) (k : FlatRow) → IsLeftRow store wanted id new old.last later since k → IsLeftRow store wanted id new mid.last later since k
+left_second store wanted id old mid new first second later since k is = record {
   own = untouched_second new old.last mid.last k.path first.later second.later is.own;
   row = λ asked.
       let alike = alike_at new old.last mid.last k.path first.later second.later is.own in

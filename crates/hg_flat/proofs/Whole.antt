@@ -28,7 +28,8 @@ use Rattle.hg_flat.proofs.Refusing.{state_kept}
 use Rattle.hg_flat.proofs.Steps.{lists_later}
 
 module _ (asks : Asking) (same : AsksAlike asks) (Premise : Type 0) (p1 p2 : List ℕ) (rows : List FlatRow) (own : HaveOwnPaths rows) (wanted : Wanted) (id : Id20)
-    (old mid later new : trees.History) (first : trees.Passes old mid) (second : trees.Passes mid later) (third : trees.Passes later new) (files : shelves.History) (since : ℕ) where
+    (old mid later new : trees.History) (first : trees.Passes old mid) (second : trees.Passes mid later) (third : trees.Passes later new) (files : shelves.History) (since : ℕ)
+    (store : shelves.Files) where
   -- the record as a map, and which paths have an entry
   abbrev pub flat : Flat
   flat = flat_from p1 p2 (row_at rows)
@@ -38,23 +39,23 @@ module _ (asks : Asking) (same : AsksAlike asks) (Premise : Type 0) (p1 p2 : Lis
 
   -- what is left over the whole status
   abbrev pub Left : List ℕ → Type 0
-  Left = IsLeft wanted flat asks id new old.last files since
+  Left = IsLeft store wanted flat asks id new old.last files since
 
   past : trees.Extends old later
   past = extends_trans old mid later first.past second.past
 
   -- a path that is left is so while the entries are looked at
-  left_then : (path : List ℕ) → Left path → IsLeftAsked asks id later old.last files since path
+  left_then : (path : List ℕ) → Left path → IsLeftAsked store asks id later old.last files since path
   left_then path left = record {
     own = untouched_first later new old.last path third.past past.later left.own;
     row = λ asked. left.row (subst (λ (m : Moment). IsAsked asks m path) (sym (third.past.stay old.last past.later)) asked);
   }
 
-  tracked_whole : (start : shelves.Files) (a b : List Row) → AddsBy asks Premise (IsLeftAsked asks id later mid.last files since) start id (trees.now mid) wanted rows a b
-      → AddsBy asks Premise Left start id (trees.now old) wanted rows a b
-  tracked_whole start a b added =
-      adds_moved asks same Premise Premise (λ premise. premise) (IsLeftAsked asks id later mid.last files since) Left start id (trees.now mid) (trees.now old) wanted rows a b
-      (λ path left. left_ended asks same id old mid later first.past second.past files since path (left_then path left))
+  tracked_whole : (a b : List Row) → AddsBy asks Premise (IsLeftAsked store asks id later mid.last files since) store id (trees.now mid) wanted rows a b
+      → AddsBy asks Premise Left store id (trees.now old) wanted rows a b
+  tracked_whole a b added =
+      adds_moved asks same Premise Premise (λ premise. premise) (IsLeftAsked store asks id later mid.last files since) Left store id (trees.now mid) (trees.now old) wanted rows a b
+      (λ path left. left_ended store asks same id old mid later first.past second.past files since path (left_then path left))
       (λ path left. alike_between old mid later path first.past second.past (left_then path left).own) added
 
   lists_whole : (known : Known) (state : List Piece) (a b : List Row) → AreKnown known later mid.last
@@ -68,16 +69,16 @@ module _ (asks : Asking) (same : AsksAlike asks) (Premise : Type 0) (p1 p2 : Lis
       state_kept old mid new first (extends_trans mid later new second.past third.past) wanted ignore kept needed
       (left.patterns needed (ap (option_map (λ (r : FlatRow). marks_of (view r.entry))) (none_is (row_at rows path) none)))
 
-  module _ (start : shelves.Files) (a d : List Row) (added : AddsBy asks Premise (IsLeftAsked asks id later mid.last files since) start id (trees.now mid) wanted rows [] a) (ignore : Option (List Piece)) (kept : IsKeptState wanted old mid ignore)
+  module _ (a d : List Row) (added : AddsBy asks Premise (IsLeftAsked store asks id later mid.last files since) store id (trees.now mid) wanted rows [] a) (ignore : Option (List Piece)) (kept : IsKeptState wanted old mid ignore)
       (known : Known) (are : AreKnown known later mid.last) (others : ListsOthers keeps known wanted (pieces_of ignore) later new a d) where
     -- of the paths that are left the rows are the full listing
-    pub whole_listing : Premise → IsFullFor Left flat (trees.now old) (parent_rows start id) (ignored_at (trees.now old)) wanted d
+    pub whole_listing : Premise → IsFullFor Left flat (trees.now old) (parent_rows store id) (ignored_at (trees.now old)) wanted d
     whole_listing premise =
-        full_for p1 p2 (row_at rows) start id (trees.now old) wanted (named rows) asks Premise Left rows own (holds_rows rows own) a others.whole (tracked_whole start [] a added)
+        full_for p1 p2 (row_at rows) store id (trees.now old) wanted (named rows) asks Premise Left rows own (holds_rows rows own) a others.whole (tracked_whole [] a added)
         (pieces_of ignore) (state_start ignore kept) (lists_whole known (pieces_of ignore) a others.whole are others.listed) premise others.sorted d others.moved others.order others.once
 
     -- all that a comparison of one of them asked for was there
-    pub whole_served : Narrows asks wanted flat → (path : List ℕ) → Left path → IsAsked asks (trees.now old) path → IsServed start id (trees.now old) path
+    pub whole_served : Narrows asks wanted flat → (path : List ℕ) → Left path → IsAsked asks (trees.now old) path → IsServed store id (trees.now old) path
     whole_served =
-        served_path p1 p2 (row_at rows) start id (trees.now old) wanted (named rows) asks Premise Left rows own (holds_rows rows own) a others.whole (tracked_whole start [] a added)
+        served_path p1 p2 (row_at rows) store id (trees.now old) wanted (named rows) asks Premise Left rows own (holds_rows rows own) a others.whole (tracked_whole [] a added)
         (pieces_of ignore) (state_start ignore kept) (lists_whole known (pieces_of ignore) a others.whole are others.listed)

@@ -13,8 +13,9 @@ use Rattle.hg_ignore.specs.declared.fault.IgnoreFault.TheVariants as an_ignore_f
 use Rattle.hg_ignore.specs.declared.warnings.Warning.{Warning}
 use Rattle.hg_shelf.specs.History as shelves
 use Rattle.hg_shelf.specs.declared.asked.Asked as shelf_asks
+use Rattle.hg_shelf.specs.Polite.{StaysIn}
 use Rattle.hg_shelf.specs.Reads.{size_of}
-use Rattle.hg_manifest.specs.Load.{Stays, Was, asks_of}
+use Rattle.hg_manifest.specs.Load.{Was, asks_of}
 use Rattle.hg_manifest.specs.Plain.{is_null, most, plain_name}
 use Rattle.hg_manifest.specs.Rows.{Rows}
 use Rattle.hg_manifest.specs.declared.fault.ManifestFault.TheVariants as a_manifest_fault
@@ -113,10 +114,13 @@ abbrev pub IsKeptManifest : Status → Option Loaded → Type 0
 IsKeptManifest s None = Unit {0}
 IsKeptManifest s (Some loaded) = IsManifest s loaded.manifest
 
--- the shelf was asked for the whole manifest, since a path was compared, and behind it for contents that its rows name
+-- the shelf was asked for the whole manifest, of as many bytes as its file had at a moment, since a path was compared, and behind it for contents that its
+-- rows name
 pub record AsksWhole (s : Status) : Type 0 where
+  pub file : Option (List ℕ)
+  pub was : Holds s (plain_name s.id.0) (λ f. f ≡ file)
   pub contents : List shelf_asks.Asked
-  pub asked : s.shelf_new.asked ≡ s.shelf_old.asked ++ asks_of s.id ++ contents
+  pub asked : s.shelf_new.asked ≡ s.shelf_old.asked ++ asks_of s.id file ++ contents
   pub needed : (path : List ℕ) × WasAsked s.asks s.tree_old s.tree_new path
   pub each : AllByRecursion (IsOfRow s) contents
 
@@ -205,17 +209,13 @@ ComparesFound path copy later old new (Some row) before looked =
     (record { path = path; name = contents_name row.id.0; tree_old = copy; tree_new = later; shelf_old = old; shelf_new = new })
     row before (Ok looked)
 
--- the contents that the first parent's rows name at the start of a status
-abbrev pub contents_then : Status → FileRow → Option (List ℕ)
-contents_then s row = (shelves.now s.shelf_old).files (contents_name row.id.0)
-
--- a path was compared with what the first parent had of it at the start of a status, the contents of whose row stayed while it was compared
-pub record IsComparedBy (s : Status) (copy : trees.History) (path : List ℕ) (before : Stat) (looked : Looked) : Type 0 where
+-- a path was compared with what the first parent has of it in a store, whose contents those of the row were, wherever they were there meanwhile
+pub record IsComparedBy (store : shelves.Files) (s : Status) (copy : trees.History) (path : List ℕ) (before : Stat) (looked : Looked) : Type 0 where
   pub found : Option FileRow
   pub since : shelves.History
   pub told : IsTrue since.told
-  pub rows : parent_rows (shelves.now s.shelf_old).files s.id path ≡ option_map (λ row. parent_row row (contents_then s row)) found
-  pub stays : IfSome found (λ row. Stays since s.shelf_new (contents_name row.id.0) (contents_then s row))
+  pub rows : parent_rows store s.id path ≡ option_map (λ row. parent_row row (store (contents_name row.id.0))) found
+  pub stays : IfSome found (λ row. StaysIn store s.shelf_new since.last (contents_name row.id.0))
   pub compared : ComparesFound path copy s.tree_new since s.shelf_new found before looked
 
 -- the manifest has a row of the path, whose contents weren't there

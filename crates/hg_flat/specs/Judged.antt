@@ -12,10 +12,10 @@ use Rattle.hg_listing.specs.declared.row.Row.{Row}
 use Rattle.hg_listing.specs.declared.row.Wanted.{Wanted}
 use Rattle.hg_flat.specs.declared.kept.FlatRow.{FlatRow}
 
--- nobody touches a path, nor what the first parent has of it where it is compared at first
-pub record IsLeftAsked (asks : Asking) (id : Id20) (copy : trees.History) (from : ℕ) (files : shelves.History) (since : ℕ) (path : List ℕ) : Type 0 where
+-- nobody touches a path, and what the first parent has of it where it is compared at first is a store's
+pub record IsLeftAsked (store : shelves.Files) (asks : Asking) (id : Id20) (copy : trees.History) (from : ℕ) (files : shelves.History) (since : ℕ) (path : List ℕ) : Type 0 where
   pub own : Untouched copy from path
-  pub row : IsAsked asks (copy.at from) path → KeepsRow files since id path
+  pub row : IsAsked asks (copy.at from) path → KeepsRow store files since id path
 
 -- a letter that is found of an entry, or none: where its path meets S, what a comparison asks for is there, and under a premise it is the
 -- letter at a moment, as far as that is wanted

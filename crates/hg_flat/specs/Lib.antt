@@ -1,9 +1,12 @@
 pub mod Asked
+pub mod Coming
 pub mod Course
+pub mod First
 pub mod Judged
 pub mod Kept
 pub mod Listing
 pub mod Met
+pub mod Needed
 pub mod Others
 pub mod Parent
 pub mod Passed

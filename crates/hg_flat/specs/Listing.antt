@@ -81,10 +81,10 @@ pub record IsAskedRow (wanted : Wanted) (moment : Moment) (kept : FlatRow) : Typ
   pub compared : IsTrue (is_compared_row wanted kept)
   pub there : IsTrue (is_file_or_link (moment.things kept.path))
 
--- nobody touches an entry's path, nor what the first parent has of it where its bytes are compared at first
-pub record IsLeftRow (wanted : Wanted) (id : Id20) (copy : trees.History) (from : ℕ) (files : shelves.History) (since : ℕ) (kept : FlatRow) : Type 0 where
+-- nobody touches an entry's path, and what the first parent has of it where its bytes are compared at first is a store's
+pub record IsLeftRow (store : shelves.Files) (wanted : Wanted) (id : Id20) (copy : trees.History) (from : ℕ) (files : shelves.History) (since : ℕ) (kept : FlatRow) : Type 0 where
   pub own : Untouched copy from kept.path
-  pub row : IsAskedRow wanted (copy.at from) kept → KeepsRow files since id kept.path
+  pub row : IsAskedRow wanted (copy.at from) kept → KeepsRow store files since id kept.path
 
 -- a letter that is found of an entry, or none: where the entry meets S the letter at a moment, as far as it is wanted, and what a
 -- comparison asks for is there

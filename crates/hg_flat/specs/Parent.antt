@@ -9,7 +9,7 @@ use Rattle.hg_tree.specs.Moment.{Moment, stat_at}
 use Rattle.hg_tree.specs.Still.{Untouched}
 use Rattle.hg_ignore.specs.Patterns.{KeepsPatterns}
 use Rattle.hg_shelf.specs.History as shelf
-use Rattle.hg_shelf.specs.Polite.{KeepsFile}
+use Rattle.hg_shelf.specs.Polite.{StaysIn}
 use Rattle.hg_manifest.specs.Load.{manifest_in}
 use Rattle.hg_manifest.specs.Plain.{is_null, plain_name}
 use Rattle.hg_manifest.specs.Rows.{Rows}
@@ -67,16 +67,18 @@ pub record WasAsked (asks : Asking) (old new : tree.History) (path : List ℕ) :
   pub to : IsTrue old.told → at ≤ new.last
   pub is : IsTrue old.told → new.at at ≡ moment
 
--- nobody touches what a parent has of a path from a moment on: its manifest, and the contents that the row of the path names
-pub record KeepsRow (h : shelf.History) (from : ℕ) (id : Id20) (path : List ℕ) : Type 0 where
+-- what a parent has of a path from a moment on is a store's, wherever it is there: its manifest, and the contents that the row of the path names. What is
+-- absent may come
+pub record KeepsRow (store : shelf.Files) (h : shelf.History) (from : ℕ) (id : Id20) (path : List ℕ) : Type 0 where
   pub told : IsTrue h.told
-  pub manifest : is_null id.0 ≡ false → KeepsFile h from (plain_name id.0)
-  pub contents : IfSome (row_among (manifest_at (h.at from).files id) path) (λ row. KeepsFile h from (contents_name row.id.0))
+  pub manifest : is_null id.0 ≡ false → StaysIn store h from (plain_name id.0)
+  pub contents : IfSome (row_among (manifest_at store id) path) (λ row. StaysIn store h from (contents_name row.id.0))
 
--- nobody touches a path, nor what the first parent has of it where the path is compared at first, nor the ignore patterns where they decide its letter
-pub record IsLeft (wanted : Wanted) (flat : Flat) (asks : Asking) (id : Id20) (copy : tree.History) (from : ℕ) (files : shelf.History) (since : ℕ) (path : List ℕ) : Type 0 where
+-- nobody touches a path, what the first parent has of it where the path is compared at first is a store's, and nobody touches the ignore patterns where they
+-- decide its letter
+pub record IsLeft (store : shelf.Files) (wanted : Wanted) (flat : Flat) (asks : Asking) (id : Id20) (copy : tree.History) (from : ℕ) (files : shelf.History) (since : ℕ) (path : List ℕ) : Type 0 where
   pub own : Untouched copy from path
-  pub row : IsAsked asks (copy.at from) path → KeepsRow files since id path
+  pub row : IsAsked asks (copy.at from) path → KeepsRow store files since id path
   pub patterns : needs_patterns wanted ≡ true → flat.marks path ≡ None → KeepsPatterns copy from
 
 -- where a look shows a thing of a row's kind and executable bit, the row has contents

@@ -1,17 +1,20 @@
 //! The letter of a path whose bytes are compared with the first parent's.
 
-ghost use Rattle.std.specs.Prelude.{◌≡◌, List, Option, Some, None, ℕ, IsTrue, IfErr, IfOk, IfSome, OnOk, is_some};
+ghost use Rattle.std.specs.Prelude.{◌≡◌, ◌⊎◌, List, Option, Some, None, ℕ, IsTrue, IfErr, IfOk, IfSome, OnOk, is_some};
 ghost use Rattle.hg_compare.specs.Alike.{contents_name, is_alike};
 ghost use Rattle.hg_compare.specs.Same.{Reads, StaysShown, parent_row};
-ghost use Rattle.hg_manifest.specs.Load.{Stays, asks_of};
-ghost use Rattle.hg_shelf.specs.Asks.{AsksInOrder, AsksOnly};
+ghost use Rattle.hg_manifest.specs.Load.{AsksByFile, asks_of};
+ghost use Rattle.hg_manifest.specs.Plain.{plain_name};
+ghost use Rattle.hg_shelf.specs.Asks.{AsksOnly};
 ghost use Rattle.hg_shelf.specs.History as shelves;
 ghost use Rattle.hg_shelf.specs.Images as images;
+ghost use Rattle.hg_shelf.specs.Polite.{StaysIn};
 ghost use Rattle.hg_tree.specs.History as trees;
 ghost use Rattle.hg_tree.specs.Moment.{stat_at};
 ghost use Rattle.hg_listing.specs.Cause.{HasShelfCause, HasStatusCause};
 ghost use Rattle.hg_flat.specs.Course.{Proceeds, ComparesFound, IsComparedBy, IsFound, IsJudged, LacksIn, LoadsParent, MetBy, compared_letter, letter_of, upto};
 ghost use Rattle.hg_flat.specs.Met.{Status};
+ghost use Rattle.hg_flat.specs.Needed.{NeedsBytes, NeedsIn};
 ghost use Rattle.hg_flat.specs.Parent.{KeepsRow, WasAsked, row_of};
 ghost use Rattle.hg_flat.specs.Stored.{AsksStore, IsContents};
 ghost use Rattle.hg_listing.specs.declared.fault.StatusFault.TheVariants as a_fault;
@@ -33,7 +36,7 @@ fn load<S: Shelf>(alloc: Global, shelf: &mut S, id: &Id20) -> Result<Loaded, Sta
     ensures found { (s : Status) → shelves.Passes s.shelf_old (S.history shelf.old)
         → id.now ≡ s.id
         → LoadsParent (upto s s.tree_new (S.history shelf.new)) result }
-    ensures asked { IsTrue (S.history shelf.old).told → AsksInOrder (asks_of id.now) (S.history shelf.old) (S.history shelf.new) result }
+    ensures asked { IsTrue (S.history shelf.old).told → AsksByFile (plain_name id.now.0) (asks_of id.now) (S.history shelf.old) (S.history shelf.new) result }
     ensures kind { IfErr result (λ fault. fault ≡ a_fault.TreeFailed → ⊥) }
     ensures cause { HasShelfCause (S.faults shelf.old) (S.faults shelf.new) result }
 {
@@ -78,7 +81,7 @@ fn letter_by_row<T: Tree, S: Shelf>(
     ensures judged { (files : shelves.Files) → IsTrue (T.history tree.old).told
         → IsTrue (S.history shelf.old).told
         → StaysShown (T.history tree.old) (T.history tree.new) path.entry.text.now
-        → Stays (S.history shelf.old) (S.history shelf.new) (contents_name row.now.id.0) (files (contents_name row.now.id.0))
+        → StaysIn files (S.history shelf.new) (S.history shelf.old).last (contents_name row.now.id.0)
         → stat_at (trees.now (T.history tree.old)) path.entry.text.now ≡ Some before.now
         → IfOk
         result
@@ -93,6 +96,8 @@ fn letter_by_row<T: Tree, S: Shelf>(
         (S.history shelf.new)
         (Some row.now)
         before.now) }
+    // The working copy isn't asked but where kind and executable bit are the row's and its contents had the size of the look.
+    ensures needed { (tree.new ≡ tree.old) ⊎ NeedsIn (S.history shelf.old) (S.history shelf.new) (Some row.now) before.now }
     ensures lacks { IfErr result (LacksIn (S.history shelf.old) (S.history shelf.new) (Some row.now) before.now) }
     ensures asked { IsTrue (T.history tree.old).told → Reads before.now.size path.entry.text.now (T.history tree.old) (T.history tree.new) }
     ensures contents { IsTrue (S.history shelf.old).told
@@ -124,7 +129,7 @@ fn letter_in<T: Tree, S: Shelf>(
         → StaysShown (T.history tree.old) (T.history tree.new) path.entry.text.now
         → IfSome
         (row_of loaded.old.manifest path.entry.text.now)
-        (λ row. Stays (S.history shelf.old) (S.history shelf.new) (contents_name row.id.0) (files (contents_name row.id.0)))
+        (λ row. StaysIn files (S.history shelf.new) (S.history shelf.old).last (contents_name row.id.0))
         → stat_at (trees.now (T.history tree.old)) path.entry.text.now ≡ Some before.now
         → IfOk
         result
@@ -144,6 +149,12 @@ fn letter_in<T: Tree, S: Shelf>(
         (S.history shelf.new)
         (row_of loaded.old.manifest path.entry.text.now)
         before.now) }
+    ensures needed { (tree.new ≡ tree.old)
+        ⊎ NeedsIn
+        (S.history shelf.old)
+        (S.history shelf.new)
+        (row_of loaded.old.manifest path.entry.text.now)
+        before.now }
     ensures lacks { IfErr
         result
         (LacksIn
@@ -185,21 +196,22 @@ fn first_letter<T: Tree, S: Shelf>(
         ((s : Status) → Proceeds (upto s (T.history tree.old) (S.history shelf.old)) parent.old
         → WasAsked s.asks s.tree_old (T.history tree.new) path.entry.text.now
         → Proceeds (upto s (T.history tree.new) (S.history shelf.new)) parent.new) }
-    // Where nobody touches the path and what the parent has of it, it is the letter of that.
+    // Where nobody touches the path, and what the parent has of it is a store's wherever it is there, it is the letter of that.
     ensures found { IfOk
         result
-        (λ looked. (s : Status) → Proceeds (upto s (T.history tree.old) (S.history shelf.old)) parent.old
+        (λ looked. (s : Status) (store : shelves.Files) → Proceeds (upto s (T.history tree.old) (S.history shelf.old)) parent.old
         → IsTrue (T.history tree.old).told
         → StaysShown (T.history tree.old) (T.history tree.new) path.entry.text.now
-        → KeepsRow (S.history shelf.new) s.shelf_old.last s.id path.entry.text.now
+        → KeepsRow store (S.history shelf.new) s.shelf_old.last s.id path.entry.text.now
         → stat_at (trees.now (T.history tree.old)) path.entry.text.now ≡ Some before.now
-        → IsFound (shelves.now s.shelf_old).files s.id (trees.now (T.history tree.old)) path.entry.text.now (letter_of looked)) }
-    // Whatever others do to the path, where nobody touches what the parent has of it: by which row it was compared, and what was seen.
+        → IsFound store s.id (trees.now (T.history tree.old)) path.entry.text.now (letter_of looked)) }
+    // Whatever others do to the path, where what the parent has of it is a store's: by which row it was compared, and what was seen.
     ensures same { IfOk
         result
-        (λ looked. (s : Status) → Proceeds (upto s (T.history tree.old) (S.history shelf.old)) parent.old
-        → KeepsRow (S.history shelf.new) s.shelf_old.last s.id path.entry.text.now
+        (λ looked. (s : Status) (store : shelves.Files) → Proceeds (upto s (T.history tree.old) (S.history shelf.old)) parent.old
+        → KeepsRow store (S.history shelf.new) s.shelf_old.last s.id path.entry.text.now
         → IsComparedBy
+        store
         (upto s (T.history tree.new) (S.history shelf.new))
         (T.history tree.old)
         path.entry.text.now
@@ -209,6 +221,9 @@ fn first_letter<T: Tree, S: Shelf>(
         result
         (λ fault. (s : Status) → Proceeds (upto s (T.history tree.old) (S.history shelf.old)) parent.old
         → MetBy (upto s (T.history tree.new) (S.history shelf.new)) path.entry.text.now before.now fault) }
+    ensures needed { (s : Status) → Proceeds (upto s (T.history tree.old) (S.history shelf.old)) parent.old
+        → (tree.new ≡ tree.old)
+        ⊎ NeedsBytes (upto s (T.history tree.new) (S.history shelf.new)) path.entry.text.now before.now }
     ensures asked { IsTrue (T.history tree.old).told → Reads before.now.size path.entry.text.now (T.history tree.old) (T.history tree.new) }
     ensures store { IfErr
         result
@@ -244,21 +259,22 @@ pub fn compared_letter<T: Tree, S: Shelf>(
         ((s : Status) → Proceeds (upto s (T.history tree.old) (S.history shelf.old)) parent.old
         → WasAsked s.asks s.tree_old (T.history tree.new) path.entry.text.now
         → Proceeds (upto s (T.history tree.new) (S.history shelf.new)) parent.new) }
-    // Where nobody touches the path and what the parent has of it, it is the letter of that.
+    // Where nobody touches the path, and what the parent has of it is a store's wherever it is there, it is the letter of that.
     ensures found { IfOk
         result
-        (λ looked. (s : Status) → Proceeds (upto s (T.history tree.old) (S.history shelf.old)) parent.old
+        (λ looked. (s : Status) (store : shelves.Files) → Proceeds (upto s (T.history tree.old) (S.history shelf.old)) parent.old
         → IsTrue (T.history tree.old).told
         → StaysShown (T.history tree.old) (T.history tree.new) path.entry.text.now
-        → KeepsRow (S.history shelf.new) s.shelf_old.last s.id path.entry.text.now
+        → KeepsRow store (S.history shelf.new) s.shelf_old.last s.id path.entry.text.now
         → stat_at (trees.now (T.history tree.old)) path.entry.text.now ≡ Some before.now
-        → IsFound (shelves.now s.shelf_old).files s.id (trees.now (T.history tree.old)) path.entry.text.now (letter_of looked)) }
-    // Whatever others do to the path, where nobody touches what the parent has of it: by which row it was compared, and what was seen.
+        → IsFound store s.id (trees.now (T.history tree.old)) path.entry.text.now (letter_of looked)) }
+    // Whatever others do to the path, where what the parent has of it is a store's: by which row it was compared, and what was seen.
     ensures same { IfOk
         result
-        (λ looked. (s : Status) → Proceeds (upto s (T.history tree.old) (S.history shelf.old)) parent.old
-        → KeepsRow (S.history shelf.new) s.shelf_old.last s.id path.entry.text.now
+        (λ looked. (s : Status) (store : shelves.Files) → Proceeds (upto s (T.history tree.old) (S.history shelf.old)) parent.old
+        → KeepsRow store (S.history shelf.new) s.shelf_old.last s.id path.entry.text.now
         → IsComparedBy
+        store
         (upto s (T.history tree.new) (S.history shelf.new))
         (T.history tree.old)
         path.entry.text.now
@@ -268,6 +284,11 @@ pub fn compared_letter<T: Tree, S: Shelf>(
         result
         (λ fault. (s : Status) → Proceeds (upto s (T.history tree.old) (S.history shelf.old)) parent.old
         → MetBy (upto s (T.history tree.new) (S.history shelf.new)) path.entry.text.now before.now fault) }
+    // The working copy isn't asked, nor looked at again, but where the manifest that was read has a row of the path's kind and executable bit, whose contents
+    // had the size of the look.
+    ensures needed { (s : Status) → Proceeds (upto s (T.history tree.old) (S.history shelf.old)) parent.old
+        → (tree.new ≡ tree.old)
+        ⊎ NeedsBytes (upto s (T.history tree.new) (S.history shelf.new)) path.entry.text.now before.now }
     ensures asked { IsTrue (T.history tree.old).told → Reads before.now.size path.entry.text.now (T.history tree.old) (T.history tree.new) }
     ensures store { IfErr
         result

@@ -8,9 +8,11 @@ ghost use Rattle.hg_tree.specs.Moment.{stat_at};
 ghost use Rattle.hg_flat.specs.Asked.{AsksReads};
 ghost use Rattle.hg_listing.specs.Cause.{HasShelfCause, HasStatusCause};
 ghost use Rattle.hg_flat.specs.Course.{Proceeds, MetParent, upto};
+ghost use Rattle.hg_flat.specs.First.{MetAt};
 ghost use Rattle.hg_listing.specs.Full.{wants};
 ghost use Rattle.hg_flat.specs.Listing.{AddsTracked, AsksRow, IsLeftRow, IsLetterFor, is_file_or_link_kind, marked_letter, row_under, rows_under, wants_bytes, wants_tracked};
 ghost use Rattle.hg_flat.specs.Met.{Status};
+ghost use Rattle.hg_flat.specs.Needed.{ReadsPath};
 ghost use Rattle.hg_flat.specs.Parent.{Asking, WasAsked};
 ghost use Rattle.hg_flat.specs.Stored.{AsksStore};
 ghost use Rattle.hg_flat.specs.declared.kept.FlatRow.{FlatRow};
@@ -104,17 +106,18 @@ fn letter_there<T: Tree, S: Shelf>(
         → Proceeds (upto s (T.history tree.new) (S.history shelf.new)) parent.new) }
     ensures found { IfOk
         result
-        (λ letter. (s : Status) → Proceeds (upto s (T.history tree.old) (S.history shelf.old)) parent.old
+        (λ letter. (s : Status) (store : shelves.Files) → Proceeds (upto s (T.history tree.old) (S.history shelf.old)) parent.old
         → (IsTrue (T.history tree.old).told → stat_at (trees.now (T.history tree.old)) kept.now.path ≡ Some there.now)
         → IsLetterFor
         (IsLeftRow
+        store
         wanted
         s.id
         (T.history tree.new)
         (T.history tree.old).last
         (S.history shelf.new)
         s.shelf_old.last)
-        (shelves.now s.shelf_old).files
+        store
         s.id
         (trees.now (T.history tree.old))
         wanted
@@ -126,10 +129,23 @@ fn letter_there<T: Tree, S: Shelf>(
         → AsksRow wanted kept.now s.asks
         → (IsTrue (T.history tree.old).told → stat_at (trees.now (T.history tree.old)) kept.now.path ≡ Some there.now)
         → MetParent (upto s (T.history tree.new) (S.history shelf.new)) fault) }
+    // Absent contents are those of this path.
+    ensures names { IfErr
+        result
+        (λ fault. (s : Status) → Proceeds (upto s (T.history tree.old) (S.history shelf.old)) parent.old
+        → AsksRow wanted kept.now s.asks
+        → (IsTrue (T.history tree.old).told → stat_at (trees.now (T.history tree.old)) kept.now.path ≡ Some there.now)
+        → MetAt (upto s (T.history tree.new) (S.history shelf.new)) kept.now.path fault) }
     ensures asked { (asks : Asking) → AsksRow wanted kept.now asks
         → IsTrue (T.history tree.old).told
         → stat_at (trees.now (T.history tree.old)) kept.now.path ≡ Some there.now
         → AsksReads (WasAsked asks (T.history tree.old) (T.history tree.new)) (T.history tree.old) (T.history tree.new) }
+    // Its bytes are read only where nothing else decides its letter.
+    ensures reads { (s : Status) → Proceeds (upto s (T.history tree.old) (S.history shelf.old)) parent.old
+        → AsksRow wanted kept.now s.asks
+        → IsTrue (T.history tree.old).told
+        → stat_at (trees.now (T.history tree.old)) kept.now.path ≡ Some there.now
+        → ReadsPath (upto s (T.history tree.new) (S.history shelf.new)) (T.history tree.old) kept.now.path }
     ensures unasked { (asks : Asking) → AsksRow wanted kept.now asks
         → (IsTrue (T.history tree.old).told → stat_at (trees.now (T.history tree.old)) kept.now.path ≡ Some there.now)
         → (WasAsked asks (T.history tree.old) (T.history tree.new) kept.now.path → ⊥)
@@ -174,16 +190,17 @@ fn find_letter<T: Tree, S: Shelf>(
         → Proceeds (upto s (T.history tree.new) (S.history shelf.new)) parent.new) }
     ensures found { IfOk
         result
-        (λ letter. (s : Status) → Proceeds (upto s (T.history tree.old) (S.history shelf.old)) parent.old
+        (λ letter. (s : Status) (store : shelves.Files) → Proceeds (upto s (T.history tree.old) (S.history shelf.old)) parent.old
         → IsLetterFor
         (IsLeftRow
+        store
         wanted
         s.id
         (T.history tree.new)
         (T.history tree.old).last
         (S.history shelf.new)
         s.shelf_old.last)
-        (shelves.now s.shelf_old).files
+        store
         s.id
         (trees.now (T.history tree.old))
         wanted
@@ -194,9 +211,18 @@ fn find_letter<T: Tree, S: Shelf>(
         (λ fault. (s : Status) → Proceeds (upto s (T.history tree.old) (S.history shelf.old)) parent.old
         → AsksRow wanted kept.now s.asks
         → MetParent (upto s (T.history tree.new) (S.history shelf.new)) fault) }
+    ensures names { IfErr
+        result
+        (λ fault. (s : Status) → Proceeds (upto s (T.history tree.old) (S.history shelf.old)) parent.old
+        → AsksRow wanted kept.now s.asks
+        → MetAt (upto s (T.history tree.new) (S.history shelf.new)) kept.now.path fault) }
     ensures asked { (asks : Asking) → AsksRow wanted kept.now asks
         → IsTrue (T.history tree.old).told
         → AsksReads (WasAsked asks (T.history tree.old) (T.history tree.new)) (T.history tree.old) (T.history tree.new) }
+    ensures reads { (s : Status) → Proceeds (upto s (T.history tree.old) (S.history shelf.old)) parent.old
+        → AsksRow wanted kept.now s.asks
+        → IsTrue (T.history tree.old).told
+        → ReadsPath (upto s (T.history tree.new) (S.history shelf.new)) (T.history tree.old) kept.now.path }
     ensures unasked { (asks : Asking) → AsksRow wanted kept.now asks
         → (WasAsked asks (T.history tree.old) (T.history tree.new) kept.now.path → ⊥)
         → shelf.new ≡ shelf.old }
@@ -300,16 +326,17 @@ pub(crate) fn add_tracked<T: Tree, S: Shelf>(
         → Proceeds (upto s (T.history tree.new) (S.history shelf.new)) parent.new) }
     ensures row { OnOk
         result
-        ((s : Status) → Proceeds (upto s (T.history tree.old) (S.history shelf.old)) parent.old
+        ((s : Status) (store : shelves.Files) → Proceeds (upto s (T.history tree.old) (S.history shelf.old)) parent.old
         → AddsTracked
         (IsLeftRow
+        store
         wanted
         s.id
         (T.history tree.new)
         (T.history tree.old).last
         (S.history shelf.new)
         s.shelf_old.last)
-        (shelves.now s.shelf_old).files
+        store
         s.id
         (trees.now (T.history tree.old))
         wanted
@@ -321,9 +348,18 @@ pub(crate) fn add_tracked<T: Tree, S: Shelf>(
         (λ fault. (s : Status) → Proceeds (upto s (T.history tree.old) (S.history shelf.old)) parent.old
         → AsksRow wanted kept.now s.asks
         → MetParent (upto s (T.history tree.new) (S.history shelf.new)) fault) }
+    ensures names { IfErr
+        result
+        (λ fault. (s : Status) → Proceeds (upto s (T.history tree.old) (S.history shelf.old)) parent.old
+        → AsksRow wanted kept.now s.asks
+        → MetAt (upto s (T.history tree.new) (S.history shelf.new)) kept.now.path fault) }
     ensures asked { (asks : Asking) → AsksRow wanted kept.now asks
         → IsTrue (T.history tree.old).told
         → AsksReads (WasAsked asks (T.history tree.old) (T.history tree.new)) (T.history tree.old) (T.history tree.new) }
+    ensures reads { (s : Status) → Proceeds (upto s (T.history tree.old) (S.history shelf.old)) parent.old
+        → AsksRow wanted kept.now s.asks
+        → IsTrue (T.history tree.old).told
+        → ReadsPath (upto s (T.history tree.new) (S.history shelf.new)) (T.history tree.old) kept.now.path }
     ensures unasked { (asks : Asking) → AsksRow wanted kept.now asks
         → (WasAsked asks (T.history tree.old) (T.history tree.new) kept.now.path → ⊥)
         → shelf.new ≡ shelf.old }

@@ -17,6 +17,7 @@
 //! `specs/Patterns.antt`; what a fault of either comes from in `specs/Met.antt`; what is asked below `.hg` in `specs/Stored.antt`.
 #![tactic(auto)]
 
+mod coming;
 mod comparing;
 mod entries;
 mod flat;
@@ -32,6 +33,7 @@ mod reading;
 mod status;
 mod untracked;
 
+pub use coming::{files_may_come, store_of_end};
 pub use comparing::{compared_letter, letter_of};
 pub use entries::Entries;
 pub use flat::Flat;

@@ -3,14 +3,16 @@
 ghost use Rattle.std.specs.Prelude.{◌≡◌, true, false, ℕ, List, IsTrue, IfErr, IfOk, OnOk};
 ghost use Rattle.hg_shelf.specs.History as shelves;
 ghost use Rattle.hg_shelf.specs.Images as images;
-ghost use Rattle.hg_shelf.specs.Polite.{KeepsPlain};
+ghost use Rattle.hg_shelf.specs.Polite.{StaysPlain};
 ghost use Rattle.hg_tree.specs.History as trees;
 ghost use Rattle.hg_flat.specs.Asked.{AsksAll, AsksBehind, AsksReads, IsListedDir, pattern_reads};
 ghost use Rattle.hg_listing.specs.Cause.{HasShelfCause, HasStatusCause};
 ghost use Rattle.hg_flat.specs.Course.{MetParent};
+ghost use Rattle.hg_flat.specs.First.{MetFirst};
 ghost use Rattle.hg_flat.specs.Judged.{AddsBy, IsLeftAsked};
 ghost use Rattle.hg_listing.specs.Full.{IsFull, IsFullFor};
 ghost use Rattle.hg_flat.specs.Met.{Met};
+ghost use Rattle.hg_flat.specs.Needed.{AsksNeeded, ReadsNeeded};
 ghost use Rattle.hg_flat.specs.Parent.{IsAsked, IsLeft, IsServed, WasAsked, asked_by, parent_rows};
 ghost use Rattle.hg_flat.specs.Patterns.{CountsOversize, HadPatterns, Warns, ignored_at, is_of_parent, needs_patterns};
 ghost use Rattle.hg_flat.specs.Stored.{AsksStore};
@@ -43,19 +45,20 @@ fn add_each<T: Tree, S: Shelf>(
     ensures passes_shelf { shelves.Passes (S.history shelf.old) (S.history shelf.new) }
     ensures kept { images.Goes (images.course (S.history shelf.old) (S.images shelf.old)) (images.course (S.history shelf.new) (S.images shelf.new)) }
     ensures held { S.held shelf.new ≡ S.held shelf.old }
-    ensures added { OnOk
+    ensures added { (store : shelves.Files) → OnOk
         result
         (AddsBy
         (asked_by wanted (flat_in flat.now))
         (Unit {0})
         (IsLeftAsked
+        store
         (asked_by wanted (flat_in flat.now))
         p1.now
         (T.history tree.new)
         (T.history tree.old).last
         (S.history shelf.new)
         (S.history shelf.old).last)
-        (shelves.now (S.history shelf.old)).files
+        store
         p1.now
         (trees.now (T.history tree.old))
         wanted
@@ -74,11 +77,36 @@ fn add_each<T: Tree, S: Shelf>(
           shelf_old = S.history shelf.old;
           shelf_new = S.history shelf.new;
         })) }
+    // Of several contents that are absent those of the first path are answered.
+    ensures first { IfErr
+        result
+        (MetFirst
+        (record {
+          wanted = wanted;
+          asks = asked_by wanted (flat_in flat.now);
+          id = p1.now;
+          tree_old = T.history tree.old;
+          tree_new = T.history tree.new;
+          shelf_old = S.history shelf.old;
+          shelf_new = S.history shelf.new;
+        })) }
     ensures asked { IsTrue (T.history tree.old).told
         → AsksReads
         (WasAsked (asked_by wanted (flat_in flat.now)) (T.history tree.old) (T.history tree.new))
         (T.history tree.old)
         (T.history tree.new) }
+    // The bytes of each path are read in one comparison at most, and only where they are needed.
+    ensures reads { IsTrue (T.history tree.old).told
+        → ReadsNeeded
+        (record {
+          wanted = wanted;
+          asks = asked_by wanted (flat_in flat.now);
+          id = p1.now;
+          tree_old = T.history tree.old;
+          tree_new = T.history tree.new;
+          shelf_old = S.history shelf.old;
+          shelf_new = S.history shelf.new;
+        }) }
     ensures unasked { ((path : List ℕ) → WasAsked (asked_by wanted (flat_in flat.now)) (T.history tree.old) (T.history tree.new) path → ⊥)
         → shelf.new ≡ shelf.old }
     ensures store { IsTrue (S.history shelf.old).told
@@ -109,9 +137,11 @@ fn add_each<T: Tree, S: Shelf>(
 /// it, and a directory that is ignored is gone into only where I is wanted. The warnings are those of its lines.
 ///
 /// A path that is tracked and in the first parent alone, with no copy source, is compared byte for byte where M or C is wanted and a file or
-/// a link stands there; the manifest of the parent `p1` is loaded at the first such path. A path that nobody touches meanwhile, nor what the parent has of it,
-/// nor the patterns where they decide its letter, has exactly its row, whatever others do to other paths; where nobody else steps and the plain store stays,
-/// the rows are the full listing.
+/// a link stands there; the manifest of the parent `p1` is loaded at the first such path.
+///
+/// What the parent has of a path is told by any store whose bytes the files of the plain store have wherever they are there during the call: by the files
+/// at its end where others keep what is there, though absent files come. A path that nobody touches meanwhile, nor the patterns where they decide its letter,
+/// has exactly its row by such a store, whatever others do to other paths; where nobody else steps, the rows are the full listing.
 pub fn plain_status<T: Tree, S: Shelf, G: Regexps>(
     alloc: Global,
     flat: &Flat,
@@ -125,10 +155,11 @@ pub fn plain_status<T: Tree, S: Shelf, G: Regexps>(
     ensures passes_shelf { shelves.Passes (S.history shelf.old) (S.history shelf.new) }
     ensures kept { images.Goes (images.course (S.history shelf.old) (S.images shelf.old)) (images.course (S.history shelf.new) (S.images shelf.new)) }
     ensures held { S.held shelf.new ≡ S.held shelf.old }
-    ensures still { IfOk
+    ensures still { (store : shelves.Files) → IfOk
         result
         (λ listed. IsFullFor
         (IsLeft
+        store
         wanted
         (flat_in flat.now)
         (asked_by wanted (flat_in flat.now))
@@ -139,18 +170,18 @@ pub fn plain_status<T: Tree, S: Shelf, G: Regexps>(
         (S.history shelf.old).last)
         (flat_in flat.now)
         (trees.now (T.history tree.old))
-        (parent_rows (shelves.now (S.history shelf.old)).files p1.now)
+        (parent_rows store p1.now)
         (ignored_at (trees.now (T.history tree.old)))
         wanted
         listed.rows) }
-    ensures full { trees.IsOurs (T.history tree.old) (T.history tree.new)
-        → KeepsPlain (S.history shelf.new) (S.history shelf.old).last
+    ensures full { (store : shelves.Files) → trees.IsOurs (T.history tree.old) (T.history tree.new)
+        → StaysPlain store (S.history shelf.new) (S.history shelf.old).last
         → IfOk
         result
         (λ listed. IsFull
         (flat_in flat.now)
         (trees.now (T.history tree.old))
-        (parent_rows (shelves.now (S.history shelf.old)).files p1.now)
+        (parent_rows store p1.now)
         (ignored_at (trees.now (T.history tree.old)))
         wanted
         listed.rows) }
@@ -159,7 +190,8 @@ pub fn plain_status<T: Tree, S: Shelf, G: Regexps>(
     // Without a fault all that a comparison asked for was there.
     ensures served { OnOk
         result
-        ((path : List ℕ) → IsLeft
+        ((store : shelves.Files) (path : List ℕ) → IsLeft
+        store
         wanted
         (flat_in flat.now)
         (asked_by wanted (flat_in flat.now))
@@ -170,10 +202,23 @@ pub fn plain_status<T: Tree, S: Shelf, G: Regexps>(
         (S.history shelf.old).last
         path
         → IsAsked (asked_by wanted (flat_in flat.now)) (trees.now (T.history tree.old)) path
-        → IsServed (shelves.now (S.history shelf.old)).files p1.now (trees.now (T.history tree.old)) path) }
+        → IsServed store p1.now (trees.now (T.history tree.old)) path) }
     ensures met { IfErr
         result
         (Met
+        (record {
+          wanted = wanted;
+          asks = asked_by wanted (flat_in flat.now);
+          id = p1.now;
+          tree_old = T.history tree.old;
+          tree_new = T.history tree.new;
+          shelf_old = S.history shelf.old;
+          shelf_new = S.history shelf.new;
+        })) }
+    // Of several contents that are absent those of the first path are answered: what each path before it asks for was there.
+    ensures first { IfErr
+        result
+        (MetFirst
         (record {
           wanted = wanted;
           asks = asked_by wanted (flat_in flat.now);
@@ -202,6 +247,18 @@ pub fn plain_status<T: Tree, S: Shelf, G: Regexps>(
         (IsListedDir wanted (T.history tree.old) (T.history tree.new))
         (T.history tree.old)
         (T.history tree.new)) }
+    // The bytes of each path are read in one comparison at most, and only where neither kind, executable bit nor size decide its letter.
+    ensures reads { IsTrue (T.history tree.old).told
+        → AsksNeeded
+        (record {
+          wanted = wanted;
+          asks = asked_by wanted (flat_in flat.now);
+          id = p1.now;
+          tree_old = T.history tree.old;
+          tree_new = T.history tree.new;
+          shelf_old = S.history shelf.old;
+          shelf_new = S.history shelf.new;
+        }) }
     // Where no path is compared, the files below `.hg` aren't asked.
     ensures unasked { ((path : List ℕ) → WasAsked (asked_by wanted (flat_in flat.now)) (T.history tree.old) (T.history tree.new) path → ⊥)
         → shelf.new ≡ shelf.old }

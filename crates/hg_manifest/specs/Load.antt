@@ -2,6 +2,7 @@
 use Rattle.std.specs.Prelude.{ℕ, ◌≡◌, ◌≤◌, ◌<◌, if◌then◌else◌, List, [], ◌∷◌, length, take, Option, Some, None, Result, Ok, Err, IsTrue, nat_lt}
 use Rattle.hg_base.specs.Fault.{Rose}
 use Rattle.hg_base.specs.declared.id.Id20.{Id20}
+use Rattle.hg_shelf.specs.Asks.{AsksInOrder}
 use Rattle.hg_shelf.specs.History.{History}
 use Rattle.hg_shelf.specs.Reads.{size_of}
 use Rattle.hg_shelf.specs.declared.asked.Asked.{Asked}
@@ -78,10 +79,21 @@ manifest_in id file = if is_null id.0 then Ok [] else file_manifest id file
 abbrev pub Stays : History → History → List ℕ → Option (List ℕ) → Type 0
 Stays old new name file = (k : ℕ) → During old new k → file_at new name k ≡ file
 
--- what the load of a file asks for: its size, then its bytes
-abbrev pub file_asks : List ℕ → List Asked
-file_asks name = an_ask.Size name ∷ an_ask.Read name ∷ []
+-- what is asked for behind the size of a file: all its bytes by one read, none where it is absent or too large
+abbrev pub bytes_asks : List ℕ → Option ℕ → List Asked
+bytes_asks name None = []
+bytes_asks name (Some size) = if nat_lt most size then [] else an_ask.Read name 0 size ∷ []
 
--- what the load of an identifier's manifest asks for; the null parent needs no file
-abbrev pub asks_of : Id20 → List Asked
-asks_of id = if is_null id.0 then [] else file_asks (plain_name id.0)
+-- what the load of a file asks for, as this is at one moment: its size, then its bytes
+abbrev pub file_asks : List ℕ → Option (List ℕ) → List Asked
+file_asks name file = an_ask.Size name ∷ bytes_asks name (size_of file)
+
+-- what the load of an identifier's manifest asks for, by its file at one moment; the null parent needs no file
+abbrev pub asks_of : Id20 → Option (List ℕ) → List Asked
+asks_of id file = if is_null id.0 then [] else file_asks (plain_name id.0) file
+
+-- a call asks for what the file of a name is to be asked for as it was at a moment of the call
+pub record AsksByFile {T E : Type 0} (name : List ℕ) (asks_by : Option (List ℕ) → List Asked) (old new : History) (result : Result T E) : Type 0 where
+  pub file : Option (List ℕ)
+  pub was : Was old new name (λ f. f ≡ file)
+  pub asks : AsksInOrder (asks_by file) old new result

@@ -3,7 +3,7 @@
 ghost use Rattle.std.specs.Prelude.{◌≡◌, ◌≤◌, ◌<◌, [], ◌∷◌, true, false, Ok, Option, ℕ, List, IsTrue, IfOk, IfErr, OnOk, length, string_bytes};
 ghost use Rattle.hg_base.specs.Fault.{HasCause, IsSteady};
 ghost use Rattle.hg_manifest.specs.Kept.{Answers};
-ghost use Rattle.hg_manifest.specs.Load.{Finds, IsCounted, Stays, Was, asks_of, file_asks, manifest_in};
+ghost use Rattle.hg_manifest.specs.Load.{AsksByFile, Finds, IsCounted, Stays, Was, asks_of, file_asks, manifest_in};
 ghost use Rattle.hg_manifest.specs.Loaded.{Sizes, Takes};
 ghost use Rattle.hg_manifest.specs.Plain.{is_null, most, plain_name};
 ghost use Rattle.hg_manifest.specs.declared.fault.ManifestFault.TheVariants as a_fault;
@@ -71,7 +71,7 @@ fn take_bytes<S: Shelf>(
     ensures passes { Passes (S.history shelf.old) (S.history shelf.new) }
     ensures kept { Goes (course (S.history shelf.old) (S.images shelf.old)) (course (S.history shelf.new) (S.images shelf.new)) }
     ensures held { S.held shelf.new ≡ S.held shelf.old }
-    ensures asked { IsTrue (S.history shelf.old).told → AsksInOrder (an_ask.Read name.now ∷ []) (S.history shelf.old) (S.history shelf.new) result }
+    ensures asked { IsTrue (S.history shelf.old).told → AsksInOrder (an_ask.Read name.now 0 size ∷ []) (S.history shelf.old) (S.history shelf.new) result }
     ensures found { Takes (S.history shelf.old) (S.history shelf.new) name.now id.now size result }
     ensures cause { HasCause (S.faults shelf.old) (S.faults shelf.new) result (λ e. e ≡ a_fault.Failed) }
     ensures still { IfErr result (λ e. (e ≡ a_fault.Failed → ⊥) → S.faults shelf.new ≡ S.faults shelf.old) }
@@ -92,7 +92,7 @@ fn load_file<S: Shelf>(alloc: Global, shelf: &mut S, id: &Id20) -> Result<Manife
     ensures passes { Passes (S.history shelf.old) (S.history shelf.new) }
     ensures kept { Goes (course (S.history shelf.old) (S.images shelf.old)) (course (S.history shelf.new) (S.images shelf.new)) }
     ensures held { S.held shelf.new ≡ S.held shelf.old }
-    ensures asked { IsTrue (S.history shelf.old).told → AsksInOrder (file_asks (plain_name id.now.0)) (S.history shelf.old) (S.history shelf.new) result }
+    ensures asked { IsTrue (S.history shelf.old).told → AsksByFile (plain_name id.now.0) (file_asks (plain_name id.now.0)) (S.history shelf.old) (S.history shelf.new) result }
     ensures found { Finds (S.history shelf.old) (S.history shelf.new) (plain_name id.now.0) id.now result }
     ensures cause { HasCause (S.faults shelf.old) (S.faults shelf.new) result (λ e. e ≡ a_fault.Failed) }
     ensures counted { IsCounted (S.faults shelf.old) (S.faults shelf.new) result }
@@ -119,7 +119,8 @@ impl Manifest {
         ensures passes { Passes (S.history shelf.old) (S.history shelf.new) }
         ensures kept { Goes (course (S.history shelf.old) (S.images shelf.old)) (course (S.history shelf.new) (S.images shelf.new)) }
         ensures held { S.held shelf.new ≡ S.held shelf.old }
-        ensures asked { IsTrue (S.history shelf.old).told → AsksInOrder (asks_of id.now) (S.history shelf.old) (S.history shelf.new) result }
+        // The read begins at the first byte, and asks for as many as the file had at a moment of the call.
+        ensures asked { IsTrue (S.history shelf.old).told → AsksByFile (plain_name id.now.0) (asks_of id.now) (S.history shelf.old) (S.history shelf.new) result }
         ensures found { is_null id.now.0 ≡ false → Finds (S.history shelf.old) (S.history shelf.new) (plain_name id.now.0) id.now result }
         ensures cause { HasCause (S.faults shelf.old) (S.faults shelf.new) result (λ e. e ≡ a_fault.Failed) }
         ensures counted { IsCounted (S.faults shelf.old) (S.faults shelf.new) result }

@@ -1,5 +1,5 @@
--- Where nobody else touches a word's path, nor what the first parent has of it, `remove` refuses it exactly as one moment says.
-use Rattle.std.proofs.Common.{ℕ, zero, suc, ◌≡◌, ◌⊎◌, ◌≤◌, ◌<◌, ◌+◌, ◌-◌, Bool, true, false, not, ◌&&◌, ◌||◌, cond, List, Option, Some, None, Result, Ok, option_map, inl, inr, refl, sym, ap, ◌∙◌, subst, arith}
+-- Where nobody else touches a word's path, and what the first parent has of it is a store's, `remove` refuses it exactly as one moment and the store say.
+use Rattle.std.proofs.Common.{ℕ, zero, suc, ◌≡◌, ◌⊎◌, ◌≤◌, ◌<◌, ◌+◌, ◌-◌, Bool, true, false, not, ◌&&◌, ◌||◌, cond, List, Option, Some, None, Result, option_map, inl, inr, refl, sym, ap, ◌∙◌, subst, arith}
 use Rattle.std.specs.Prelude.{IsTrue, IfSome, MatchBool, is_some}
 use Rattle.hg_base.specs.PathText.{is_path}
 use Rattle.hg_base.specs.declared.stat.Stat.{Stat}
@@ -10,7 +10,7 @@ use Rattle.hg_compare.specs.Seen.{SeesNothing}
 use Rattle.hg_compare.specs.Tracked.{ParentRow, is_file_or_link, is_file_or_link_thing, is_unchanged, tracked_letter}
 use Rattle.hg_compare.specs.declared.letter.Letter.TheVariants as a_letter
 use Rattle.hg_compare.specs.declared.looked.Looked.TheVariants as a_look
-use Rattle.hg_compare.proofs.Deciding.{decides}
+use Rattle.hg_compare.proofs.Deciding.{decides_in}
 use Rattle.hg_entry.specs.Entry.{EntryData}
 use Rattle.hg_entry.specs.Steps.{is_file}
 use Rattle.hg_entry.specs.Table.{Table, marks_of}
@@ -23,9 +23,9 @@ use Rattle.hg_ops.specs.Parents.{row_at}
 use Rattle.hg_ops.specs.Remove.{IsAsRow, IsChangedFile, IsUnchangedFile, IsUnlikeRow, OthersLeave, RefusesBehind, RefusesByRow, RefusesFile, RefusesShown, Removes, compared, early_refusal, entry_refusal, first_refusal, is_added, is_by_row, is_modified, needs_row, placed_refusal, remove_refusal}
 use Rattle.hg_ops.specs.declared.refusal.Refusal.{Refusal}
 use Rattle.hg_ops.specs.declared.refusal.Refusal.TheVariants as a_refusal
-use Rattle.hg_ops.proofs.ReadParent.{contents_kept, keeps_stays, manifest_then}
+use Rattle.hg_ops.proofs.ReadParent.{contents_kept, manifest_then}
 use Rattle.hg_shelf.specs.History as shelves
-use Rattle.hg_shelf.specs.Polite.{KeepsFile}
+use Rattle.hg_shelf.specs.Polite.{StaysIn}
 use Rattle.hg_tree.specs.History.{Extends, History, Passes, now, others}
 use Rattle.hg_tree.specs.Moment.{Moment, bytes_at, stat_at, stat_of}
 use Rattle.hg_tree.specs.Still.{Keeps}
@@ -62,30 +62,27 @@ module _ (old mid new : History) (path : List ℕ) (looks : Passes old mid) (pas
 
 -- ---- a comparison
 
-module _ (path : List ℕ) (old mid : History) (s : Span) (before : Stat) (looks : Passes old mid) (told : IsTrue old.told) (stays : StaysShown old mid path) (reads : shelves.Passes s.old s.new)
-    (keeps : KeepsRow s.new s.old.last s.id path) (shown : stat_at (now old) path ≡ Some before) where
-  abbrev files : shelves.Files
-  files = (shelves.now s.old).files
-
+module _ (store : shelves.Files) (path : List ℕ) (old mid : History) (s : Span) (before : Stat) (looks : Passes old mid) (told : IsTrue old.told) (stays : StaysShown old mid path) (reads : shelves.Passes s.old s.new)
+    (keeps : KeepsRow store s.new s.old.last s.id path) (shown : stat_at (now old) path ≡ Some before) where
   abbrev stood : Option Placed
   stood = (now old).things path
 
   held : IsTrue s.old.told
   held = sym reads.past.told ∙ keeps.told
 
-  rows_are : (rows : Rows) → IsManifest s rows → parent_rows files s.id path ≡ option_map (λ row. parent_row row (files (contents_name row.id.0))) (row_at rows path)
+  rows_are : (rows : Rows) → IsManifest s rows → parent_rows store s.id path ≡ option_map (λ row. parent_row row (store (contents_name row.id.0))) (row_at rows path)
   rows_are rows read =
-      ap (λ (r : Result Rows ManifestFault). option_map (λ row. parent_row row (files (contents_name row.id.0))) (row_among r path)) (manifest_then s rows path reads keeps read)
+      ap (λ (r : Result Rows ManifestFault). option_map (λ row. parent_row row (store (contents_name row.id.0))) (row_among r path)) (manifest_then store s rows path reads keeps read)
 
-  row_is : (rows : Rows) (row : FileRow) → IsManifest s rows → row_at rows path ≡ Some row → parent_rows files s.id path ≡ Some (parent_row row (files (contents_name row.id.0)))
-  row_is rows row read has = rows_are rows read ∙ ap (λ (o : Option FileRow). option_map (λ row. parent_row row (files (contents_name row.id.0))) o) has
+  row_is : (rows : Rows) (row : FileRow) → IsManifest s rows → row_at rows path ≡ Some row → parent_rows store s.id path ≡ Some (parent_row row (store (contents_name row.id.0)))
+  row_is rows row read has = rows_are rows read ∙ ap (λ (o : Option FileRow). option_map (λ row. parent_row row (store (contents_name row.id.0))) o) has
 
-  file_stays : (rows : Rows) (row : FileRow) → IsManifest s rows → row_at rows path ≡ Some row → KeepsFile s.new s.old.last (contents_name row.id.0)
+  file_stays : (rows : Rows) (row : FileRow) → IsManifest s rows → row_at rows path ≡ Some row → StaysIn store s.new s.old.last (contents_name row.id.0)
   file_stays rows row read has =
-      subst (λ (o : Option FileRow). IfSome o (λ row. KeepsFile s.new s.old.last (contents_name row.id.0))) has (contents_kept s rows path reads keeps (manifest_then s rows path reads keeps read))
+      subst (λ (o : Option FileRow). IfSome o (λ row. StaysIn store s.new s.old.last (contents_name row.id.0))) has (contents_kept store s rows path keeps (manifest_then store s rows path reads keeps read))
 
   abbrev equal : FileRow → Bool
-  equal row = is_unchanged (Some (parent_row row (files (contents_name row.id.0)))) stood
+  equal row = is_unchanged (Some (parent_row row (store (contents_name row.id.0)))) stood
 
   settled : stat_at (now mid) path ≡ Some before
   settled = stays.stat mid.last looks.past.later (omega arith) ∙ ap (λ (m : Moment). stat_at m path) (looks.past.stay old.last (omega arith)) ∙ shown
@@ -95,22 +92,19 @@ module _ (path : List ℕ) (old mid : History) (s : Span) (before : Stat) (looks
     where
       by : (IsSame (compared path row old mid s.old s.new) before) ⊎ (SeesNothing (compared path row old mid s.old s.new)) → equal row ≡ true
       by (inl same) =
-          (decides (compared path row old mid s.old s.new) row before (files (contents_name row.id.0)) (Ok (a_look.Same true)) looks (is.alike, same, λ known. (before, settled, refl)) told held stays
-          (keeps_stays s.old s.new (contents_name row.id.0) reads (file_stays rows row read has)) shown).0
+          (decides_in store (compared path row old mid s.old s.new) held (file_stays rows row read has) row before (a_look.Same true) looks (is.alike, same, λ known. (before, settled, refl)) told stays shown).0
       by (inr none) =
           absurd
-          (decides (compared path row old mid s.old s.new) row before (files (contents_name row.id.0)) (Ok a_look.Gone) looks (is.alike, none) told held stays
-          (keeps_stays s.old s.new (contents_name row.id.0) reads (file_stays rows row read has)) shown)
+          (decides_in store (compared path row old mid s.old s.new) held (file_stays rows row read has) row before a_look.Gone looks (is.alike, none) told stays shown)
 
-  pub unchanged_is : IsUnchangedFile path old mid s before → is_unchanged (parent_rows files s.id path) stood ≡ true
+  pub unchanged_is : IsUnchangedFile path old mid s before → is_unchanged (parent_rows store s.id path) stood ≡ true
   unchanged_is is = ap (λ (o : Option ParentRow). is_unchanged o stood) (row_is is.rows is.row is.read is.has) ∙ as_row is.rows is.row is.read is.has is.seen
 
-  unlike : (rows : Rows) → IsManifest s rows → (o : Option FileRow) → row_at rows path ≡ o → IsUnlikeRow path old mid s before o → is_unchanged (parent_rows files s.id path) stood ≡ false
-  unlike rows read None has seen = ap (λ (o : Option ParentRow). is_unchanged o stood) (rows_are rows read ∙ ap (λ (o : Option FileRow). option_map (λ row. parent_row row (files (contents_name row.id.0))) o) has)
+  unlike : (rows : Rows) → IsManifest s rows → (o : Option FileRow) → row_at rows path ≡ o → IsUnlikeRow path old mid s before o → is_unchanged (parent_rows store s.id path) stood ≡ false
+  unlike rows read None has seen = ap (λ (o : Option ParentRow). is_unchanged o stood) (rows_are rows read ∙ ap (λ (o : Option FileRow). option_map (λ row. parent_row row (store (contents_name row.id.0))) o) has)
   unlike rows read (Some row) has seen =
       ap (λ (o : Option ParentRow). is_unchanged o stood) (row_is rows row read has)
-      ∙ decides (compared path row old mid s.old s.new) row before (files (contents_name row.id.0)) (Ok a_look.Differs) looks (differs seen) told held stays
-      (keeps_stays s.old s.new (contents_name row.id.0) reads (file_stays rows row read has)) shown
+      ∙ decides_in store (compared path row old mid s.old s.new) held (file_stays rows row read has) row before a_look.Differs looks (differs seen) told stays shown
     where
       differs : (is_alike row before ≡ false) ⊎ IsOther (compared path row old mid s.old s.new) before
           → (is_alike row before ≡ false) ⊎ ((is_alike row before ≡ true) × IsOther (compared path row old mid s.old s.new) before)
@@ -121,7 +115,7 @@ module _ (path : List ℕ) (old mid : History) (s : Span) (before : Stat) (looks
           by true is = inr (is, other)
           by false is = inl is
 
-  pub changed_is : IsChangedFile path old mid s before → is_unchanged (parent_rows files s.id path) stood ≡ false
+  pub changed_is : IsChangedFile path old mid s before → is_unchanged (parent_rows store s.id path) stood ≡ false
   changed_is is = unlike is.rows is.read (row_at is.rows path) refl is.seen
 
 -- ---- the letter M
@@ -270,13 +264,13 @@ none_shown : (placed : Option Placed) → option_map (λ (p : Placed). stat_of p
 none_shown None is = refl
 none_shown (Some placed) is = absurd (cc is)
 
-pub exactly : (after : Bool) (word : List ℕ) (old new : History) (s : Span) (was : Table) (refused : Option Refusal) (made : Table) → Removes after word old new s was refused made → OthersLeave old new word
-    → (needs_row after word was ≡ true → KeepsRow s.new s.old.last s.id word)
-    → refused ≡ remove_refusal after word was (parent_rows (shelves.now s.old).files s.id word) ((now old).things word)
-exactly after word old new s was refused made r leave keeps = by (early_refusal after word was) refl r.refusal
+pub exactly : (store : shelves.Files) (after : Bool) (word : List ℕ) (old new : History) (s : Span) (was : Table) (refused : Option Refusal) (made : Table) → Removes after word old new s was refused made → OthersLeave old new word
+    → (needs_row after word was ≡ true → KeepsRow store s.new s.old.last s.id word)
+    → refused ≡ remove_refusal after word was (parent_rows store s.id word) ((now old).things word)
+exactly store after word old new s was refused made r leave keeps = by (early_refusal after word was) refl r.refusal
   where
     row : Option ParentRow
-    row = parent_rows (shelves.now s.old).files s.id word
+    row = parent_rows store s.id word
 
     placed : Option Placed
     placed = (now old).things word
@@ -291,8 +285,8 @@ exactly after word old new s was refused made r leave keeps = by (early_refusal 
     by (Some refusal) is refuses = refuses ∙ sym (ap (λ (o : Option Refusal). first_refusal o rest) is)
     by None is refuses =
         placed_refused after word was old r.mid s row placed (early_none after word was is) refused
-        (λ before shown needs unchanged. unchanged_is word old r.mid s before r.looks leave.told (stays old r.mid new word r.looks r.past leave) r.reads (keeps needs) shown unchanged)
-        (λ before shown needs changed. changed_is word old r.mid s before r.looks leave.told (stays old r.mid new word r.looks r.past leave) r.reads (keeps needs) shown changed)
+        (λ before shown needs unchanged. unchanged_is store word old r.mid s before r.looks leave.told (stays old r.mid new word r.looks r.past leave) r.reads (keeps needs) shown unchanged)
+        (λ before shown needs changed. changed_is store word old r.mid s before r.looks leave.told (stays old r.mid new word r.looks r.past leave) r.reads (keeps needs) shown changed)
         r.shown shown_is
         (λ before known. kind_shown placed before (sym shown_is ∙ known))
         (λ none. none_shown placed (sym shown_is ∙ none))

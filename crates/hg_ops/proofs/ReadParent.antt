@@ -4,13 +4,13 @@ use Rattle.std.specs.Prelude.{IsTrue, IfErr, IfOk, IfSome, OnOk, MatchBool}
 use Rattle.hg_base.specs.declared.id.Id20.{Id20}
 use Rattle.hg_base.specs.declared.stat.Stat.{Stat}
 use Rattle.hg_compare.specs.Alike.{contents_name}
-use Rattle.hg_manifest.specs.Load.{Finds, IsCounted, IsFrontOf, Reads, Stays, Was, file_at, file_manifest, manifest_in}
+use Rattle.hg_manifest.specs.Load.{Finds, IsCounted, IsFrontOf, Reads, Was, file_manifest, manifest_in}
 use Rattle.hg_manifest.specs.Plain.{is_null, plain_name}
 use Rattle.hg_manifest.specs.Rows.{Rows}
 use Rattle.hg_manifest.specs.declared.fault.ManifestFault.{ManifestFault}
 use Rattle.hg_manifest.specs.declared.fault.ManifestFault.TheVariants as a_manifest_fault
 use Rattle.hg_manifest.specs.declared.row.FileRow.{FileRow}
-use Rattle.hg_manifest.proofs.Loads.{complete}
+use Rattle.hg_manifest.proofs.Loads.{read_in}
 use Rattle.hg_ops.specs.Cause.{of_manifest}
 use Rattle.hg_ops.specs.Finding.{LacksIn, LoadsParent, MetBy}
 use Rattle.hg_ops.specs.Parent.{HasStoreCause, IsManifest, KeepsRow, LacksManifest, Span, WasRead, manifest_at, row_among, upto}
@@ -19,7 +19,7 @@ use Rattle.hg_ops.specs.declared.parent.Loaded.{Loaded}
 use Rattle.hg_ops.specs.declared.refusal.OpFault.{OpFault}
 use Rattle.hg_ops.specs.declared.refusal.OpFault.TheVariants as a_fault
 use Rattle.hg_shelf.specs.History as shelves
-use Rattle.hg_shelf.specs.Polite.{KeepsFile}
+use Rattle.hg_shelf.specs.Polite.{StaysIn}
 use Rattle.hg_shelf.specs.Reads.{size_of}
 
 -- ---- moments of the shelf
@@ -37,14 +37,6 @@ was_later old mid new name P first was = record {
   during = λ told. let during = was.during (first.past.told ∙ told) in record { from = omega (arith, first.past.later, during.from); to = during.to };
   so = λ told. was.so (first.past.told ∙ told);
 }
-
--- the files of a moment stay
-files_then : (start new : shelves.History) → shelves.Passes start new → (new.at start.last).files ≡ (shelves.now start).files
-files_then start new passes = (passes.past.stay start.last (omega arith)).shown
-
--- a file that is kept over a span stays
-pub keeps_stays : (old new : shelves.History) (name : List ℕ) → shelves.Passes old new → KeepsFile new old.last name → Stays old new name ((shelves.now old).files name)
-keeps_stays old new name passes keeps k during = keeps k during.from during.to ∙ ap (λ (f : shelves.Files). f name) (files_then old new passes)
 
 -- ---- what was read of a manifest
 
@@ -136,45 +128,26 @@ pub loads_room : (s : Span) (rows : Rows) (result : Result Loaded OpFault) → I
 loads_room s rows (Ok loaded) same kind is = subst (IsManifest s) (sym same) is
 loads_room s rows (Err fault) same kind is = subst (LacksManifest s) (sym kind) tt
 
--- ---- where nobody touches it
+-- ---- where it is a store's
 
--- the manifest that was read is that of the start
-pub manifest_then : (s : Span) (rows : Rows) (path : List ℕ) → shelves.Passes s.old s.new → KeepsRow s.new s.old.last s.id path → IsManifest s rows → manifest_at (shelves.now s.old).files s.id ≡ Ok rows
-manifest_then s rows path passes keeps is = by (is_null s.id.0) refl is
+-- the manifest that was read is that of the store
+pub manifest_then : (store : shelves.Files) (s : Span) (rows : Rows) (path : List ℕ) → shelves.Passes s.old s.new → KeepsRow store s.new s.old.last s.id path → IsManifest s rows → manifest_at store s.id ≡ Ok rows
+manifest_then store s rows path passes keeps is = by (is_null s.id.0) refl is
   where
     name : List ℕ
     name = plain_name s.id.0
 
-    file : Option (List ℕ)
-    file = (shelves.now s.old).files name
-
-    by : (b : Bool) → is_null s.id.0 ≡ b → MatchBool b (rows ≡ []) (WasRead s (Ok rows)) → manifest_in s.id file ≡ Ok rows
-    by true null none = ap (λ (t : Bool). cond t (Ok []) (file_manifest s.id file)) null ∙ ap Ok (sym none)
+    by : (b : Bool) → is_null s.id.0 ≡ b → MatchBool b (rows ≡ []) (WasRead s (Ok rows)) → manifest_in s.id (store name) ≡ Ok rows
+    by true null none = ap (λ (t : Bool). cond t (Ok []) (file_manifest s.id (store name))) null ∙ ap Ok (sym none)
     by false some read =
         let told : IsTrue s.old.told = sym passes.past.told ∙ keeps.told in
-        let stays : Stays s.old s.new name file = keeps_stays s.old s.new name passes (keeps.manifest some) in
-        let last : file_at s.new name read.front.at ≡ file_at s.new name s.new.last =
-        stays read.front.at (read.front.during told) ∙ sym (stays s.new.last (record { from = passes.past.later; to = omega arith })) in
-        let reads : Reads s.old s.new name (Ok rows) =
-        record {
-          bytes = read.bytes;
-          took = record {
-            size = read.size;
-            few = read.few;
-            short = read.short;
-            sized = read.sized;
-            front = λ known. subst (IsFrontOf read.size read.bytes) last (read.front.so told);
-          };
-          found = read.found;
-        }
-        in complete s.old s.new 0 0 name s.id (Ok rows) passes some reads refl file told stays (refl, omega arith)
+        read_in store s.old s.new name s.id read.size read.bytes (Ok rows) told (keeps.manifest some) some read.few read.short read.sized read.front read.found
 
 -- the contents of its row are kept
-pub contents_kept : (s : Span) (rows : Rows) (path : List ℕ) → shelves.Passes s.old s.new → KeepsRow s.new s.old.last s.id path → manifest_at (shelves.now s.old).files s.id ≡ Ok rows
-    → IfSome (row_at rows path) (λ row. KeepsFile s.new s.old.last (contents_name row.id.0))
-contents_kept s rows path passes keeps formed =
-    subst (λ (r : Result Rows ManifestFault). IfSome (row_among r path) (λ row. KeepsFile s.new s.old.last (contents_name row.id.0))) formed
-    (subst (λ (f : shelves.Files). IfSome (row_among (manifest_at f s.id) path) (λ row. KeepsFile s.new s.old.last (contents_name row.id.0))) (files_then s.old s.new passes) keeps.contents)
+pub contents_kept : (store : shelves.Files) (s : Span) (rows : Rows) (path : List ℕ) → KeepsRow store s.new s.old.last s.id path → manifest_at store s.id ≡ Ok rows
+    → IfSome (row_at rows path) (λ row. StaysIn store s.new s.old.last (contents_name row.id.0))
+contents_kept store s rows path keeps formed =
+    subst (λ (r : Result Rows ManifestFault). IfSome (row_among r path) (λ row. StaysIn store s.new s.old.last (contents_name row.id.0))) formed keeps.contents
 
 -- ---- faults
 

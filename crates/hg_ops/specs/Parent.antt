@@ -4,7 +4,7 @@ use Rattle.std.specs.List.{AllByRecursion}
 use Rattle.hg_base.specs.Fault.{Rose}
 use Rattle.hg_base.specs.declared.id.Id20.{Id20}
 use Rattle.hg_compare.specs.Alike.{contents_name}
-use Rattle.hg_compare.specs.Same.{parent_row}
+use Rattle.hg_compare.specs.Same.{IsPieceOf, parent_row}
 use Rattle.hg_compare.specs.Tracked.{ParentRow}
 use Rattle.hg_manifest.specs.Load.{IsFrontOf, Was, asks_of, manifest_in}
 use Rattle.hg_manifest.specs.Plain.{is_null, most, plain_name}
@@ -18,7 +18,7 @@ use Rattle.hg_ops.specs.declared.parent.Parent.{Parent}
 use Rattle.hg_ops.specs.declared.refusal.OpFault.{OpFault}
 use Rattle.hg_ops.specs.declared.refusal.OpFault.TheVariants as a_fault
 use Rattle.hg_shelf.specs.History as shelf
-use Rattle.hg_shelf.specs.Polite.{KeepsFile}
+use Rattle.hg_shelf.specs.Polite.{StaysIn}
 use Rattle.hg_shelf.specs.Reads.{size_of}
 use Rattle.hg_shelf.specs.declared.asked.Asked.{Asked}
 use Rattle.hg_shelf.specs.declared.asked.Asked.TheVariants as an_ask
@@ -38,11 +38,12 @@ row_among (Err fault) path = None
 abbrev pub parent_rows : shelf.Files → Id20 → List ℕ → Option ParentRow
 parent_rows files id path = option_map (λ row. parent_row row (files (contents_name row.id.0))) (row_among (manifest_at files id) path)
 
--- nobody touches what a parent has of a path from a moment on: its manifest, and the contents that the row of the path names
-pub record KeepsRow (h : shelf.History) (from : ℕ) (id : Id20) (path : List ℕ) : Type 0 where
+-- what a parent has of a path from a moment on is a store's, wherever it is there: its manifest, and the contents that the row of the path names. What is
+-- absent may come
+pub record KeepsRow (store : shelf.Files) (h : shelf.History) (from : ℕ) (id : Id20) (path : List ℕ) : Type 0 where
   pub told : IsTrue h.told
-  pub manifest : is_null id.0 ≡ false → KeepsFile h from (plain_name id.0)
-  pub contents : IfSome (row_among (manifest_at (h.at from).files id) path) (λ row. KeepsFile h from (contents_name row.id.0))
+  pub manifest : is_null id.0 ≡ false → StaysIn store h from (plain_name id.0)
+  pub contents : IfSome (row_among (manifest_at store id) path) (λ row. StaysIn store h from (contents_name row.id.0))
 
 -- ---- what was read of it
 
@@ -93,10 +94,10 @@ HasStoreCause before now (Err fault) = now ≡ before
 
 -- ---- what was asked for
 
--- the size or the bytes of the contents that a row names
+-- the size of the contents that a row names, or a piece of their bytes
 abbrev pub IsContents : Option FileRow → Asked → Type 0
 IsContents found ask =
-    (row : FileRow) × (found ≡ Some row) × ((ask ≡ an_ask.Size (contents_name row.id.0)) ⊎ (ask ≡ an_ask.Read (contents_name row.id.0)))
+    (row : FileRow) × (found ≡ Some row) × ((ask ≡ an_ask.Size (contents_name row.id.0)) ⊎ IsPieceOf (contents_name row.id.0) ask)
 
 -- the same of a row of the manifest that was read
 pub record IsOfRow (s : Span) (ask : Asked) : Type 0 where
@@ -105,10 +106,12 @@ pub record IsOfRow (s : Span) (ask : Asked) : Type 0 where
   pub read : WasRead s (Ok rows)
   pub contents : IsContents (row_at rows path) ask
 
--- the whole manifest was asked for, and behind it contents that its rows name
+-- the whole manifest was asked for, of as many bytes as its file had at a moment, and behind it contents that its rows name
 pub record AsksWhole (s : Span) : Type 0 where
+  pub file : Option (List ℕ)
+  pub was : Holds s (plain_name s.id.0) (λ f. f ≡ file)
   pub contents : List Asked
-  pub asked : s.new.asked ≡ s.old.asked ++ asks_of s.id ++ contents
+  pub asked : s.new.asked ≡ s.old.asked ++ asks_of s.id file ++ contents
   pub each : AllByRecursion (IsOfRow s) contents
 
 -- it was asked for so once it is loaded, and else nothing was
@@ -116,12 +119,15 @@ abbrev pub HasAsked : Span → Option Loaded → Type 0
 HasAsked s None = s.new.asked ≡ s.old.asked
 HasAsked s (Some loaded) = AsksWhole s
 
--- the manifest's size and then its bytes were asked for, or a front of that, and behind the whole of it nothing but such contents
+-- the manifest's size and then its bytes were asked for, of as many as its file had at a moment, or a front of that, and behind the whole of it nothing but
+-- such contents
 pub record AsksStore (s : Span) : Type 0 where
+  pub file : Option (List ℕ)
+  pub was : Holds s (plain_name s.id.0) (λ f. f ≡ file)
   pub some : ℕ
   pub contents : List Asked
-  pub asked : s.new.asked ≡ s.old.asked ++ take some (asks_of s.id) ++ contents
-  pub whole : (contents ≡ []) ⊎ (some ≡ length (asks_of s.id))
+  pub asked : s.new.asked ≡ s.old.asked ++ take some (asks_of s.id file) ++ contents
+  pub whole : (contents ≡ []) ⊎ (some ≡ length (asks_of s.id file))
   pub each : AllByRecursion (IsOfRow s) contents
 
 -- ---- what is kept of it

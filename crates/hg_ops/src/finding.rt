@@ -4,7 +4,8 @@ ghost use Rattle.std.specs.Prelude.{◌≡◌, ◌⊎◌, None, Some, true, IfEr
 ghost use Rattle.hg_compare.specs.Alike.{contents_name};
 ghost use Rattle.hg_compare.specs.Same.{Reads};
 ghost use Rattle.hg_entry.specs.Steps.{is_file};
-ghost use Rattle.hg_manifest.specs.Load.{asks_of};
+ghost use Rattle.hg_manifest.specs.Load.{AsksByFile, asks_of};
+ghost use Rattle.hg_manifest.specs.Plain.{plain_name};
 ghost use Rattle.hg_ops.specs.Cause.{HasOpCause};
 ghost use Rattle.hg_ops.specs.Finding.{Finds, FindsBy, FindsByRow, FindsIn, FindsThere, LacksIn, LoadsParent, MetBy, found_of};
 ghost use Rattle.hg_ops.specs.Parent.{AsksStore, HasStoreCause, IsContents, KeepsParent, Span, upto};
@@ -12,7 +13,7 @@ ghost use Rattle.hg_ops.specs.Parents.{row_at};
 ghost use Rattle.hg_ops.specs.Remove.{MetRemoving, NeedsRow, ReadsWord, WasGone, compared};
 ghost use Rattle.hg_ops.specs.declared.finding.Found.TheVariants as a_find;
 ghost use Rattle.hg_ops.specs.declared.refusal.OpFault.TheVariants as a_fault;
-ghost use Rattle.hg_shelf.specs.Asks.{AsksInOrder, AsksOnly};
+ghost use Rattle.hg_shelf.specs.Asks.{AsksOnly};
 ghost use Rattle.hg_shelf.specs.History as shelves;
 ghost use Rattle.hg_shelf.specs.Images as images;
 ghost use Rattle.hg_tree.specs.History as trees;
@@ -45,7 +46,7 @@ fn load<S: Shelf>(alloc: Global, shelf: &mut S, id: &Id20) -> Result<Loaded, OpF
     ensures kept { images.Goes (images.course (S.history shelf.old) (S.images shelf.old)) (images.course (S.history shelf.new) (S.images shelf.new)) }
     ensures held { S.held shelf.new ≡ S.held shelf.old }
     ensures found { (s : Span) → shelves.Passes s.old (S.history shelf.old) → id.now ≡ s.id → LoadsParent (upto s (S.history shelf.new)) result }
-    ensures asked { IsTrue (S.history shelf.old).told → AsksInOrder (asks_of id.now) (S.history shelf.old) (S.history shelf.new) result }
+    ensures asked { IsTrue (S.history shelf.old).told → AsksByFile (plain_name id.now.0) (asks_of id.now) (S.history shelf.old) (S.history shelf.new) result }
     ensures kind { IfErr result (λ fault. fault ≡ a_fault.TreeFailed → ⊥) }
     ensures cause { HasStoreCause (S.faults shelf.old) (S.faults shelf.new) result }
 {

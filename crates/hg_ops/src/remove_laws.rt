@@ -9,12 +9,13 @@ ghost use Rattle.hg_ops.specs.declared.refusal.Refusal.{Refusal};
 ghost use Rattle.hg_shelf.specs.History as shelves;
 ghost use Rattle.hg_tree.specs.History.{History, now};
 
-/// Where nobody else touches what stands at a word, nor what the first parent has of it where that decides, the word is refused exactly as the start says.
+/// Where nobody else touches what stands at a word, and what the first parent has of it is a store's wherever it is there, where that decides, the word is
+/// refused exactly as the start and the store say.
 pub fn remove_is_exact()
-    ensures { (after : Bool) (word : List ℕ) (old new : History) (s : Span) (was : Table) (refused : Option Refusal) (made : Table) → Removes after word old new s was refused made
+    ensures { (store : shelves.Files) (after : Bool) (word : List ℕ) (old new : History) (s : Span) (was : Table) (refused : Option Refusal) (made : Table) → Removes after word old new s was refused made
         → OthersLeave old new word
-        → (needs_row after word was ≡ true → KeepsRow s.new s.old.last s.id word)
-        → refused ≡ remove_refusal after word was (parent_rows (shelves.now s.old).files s.id word) ((now old).things word) }
+        → (needs_row after word was ≡ true → KeepsRow store s.new s.old.last s.id word)
+        → refused ≡ remove_refusal after word was (parent_rows store s.id word) ((now old).things word) }
 {}
 
 /// What was read below `.hg` in a span was read in each longer one.
@@ -27,10 +28,10 @@ pub fn remove_stays()
 
 /// So a word and a table then fix what `remove` answers and leaves.
 pub fn one_remove()
-    ensures { (after : Bool) (word : List ℕ) (old new : History) (s : Span) (was a b : Table) (q r : Option Refusal)
+    ensures { (store : shelves.Files) (after : Bool) (word : List ℕ) (old new : History) (s : Span) (was a b : Table) (q r : Option Refusal)
         → Removes after word old new s was q a
         → Removes after word old new s was r b
         → OthersLeave old new word
-        → (needs_row after word was ≡ true → KeepsRow s.new s.old.last s.id word)
+        → (needs_row after word was ≡ true → KeepsRow store s.new s.old.last s.id word)
         → (q ≡ r) × IsSame a b }
 {}

@@ -7,8 +7,8 @@ use Rattle.hg_shelf.specs.History.{Files}
 use Rattle.hg_shelf.specs.Images.{Course, Goes, Scene, last_scene, scene}
 use Rattle.hg_shelf.specs.Rules.{Perhaps, TornFile, content, moved, overwritten}
 use Rattle.hg_save.specs.Leads.{Clears, IsWhole, Leads}
-use Rattle.hg_save.specs.Others.{HasData, HasFront, IsFrontOf, UsesData, named_file}
-use Rattle.hg_save.specs.Record.{data_name, docket_in, id_in, reading}
+use Rattle.hg_save.specs.Others.{HasData, HasFront, IsFrontOf, UsesData, named_file, nodes_in}
+use Rattle.hg_save.specs.Record.{data_name, shown_in, id_in, reading}
 use Rattle.hg_save.specs.Saved.{HoldsExactly, IsExact, IsLatest, IsOver, IsUnnamed, KeepsOthers, LeavesOnly, NamesExactly, Records, ShowsOnly, Stands, WritesOnly, name_after, new_docket, published, used_in}
 use Rattle.hg_save.specs.declared.loaded.Loaded.{Loaded}
 use Rattle.hg_save.proofs.Names.{data_not_new, docket_not_data, later_still, never_itself, next_free, next_other, one_data}
@@ -116,58 +116,58 @@ led_cleared loaded nodes new over a d z start fourth led exact clears = record {
 -- ---- what is published upon
 
 -- the data of a docket that stays, in a file that stays
-pub has_still : (x y : Files) → docket_in y ≡ docket_in x → named_file (docket_in x) y ≡ named_file (docket_in x) x → HasData x → HasData y
+pub has_still : (x y : Files) → shown_in y ≡ shown_in x → named_file (shown_in x) y ≡ nodes_in x → HasData x → HasData y
 has_still x y docket file has =
     subst (λ (bytes : List ℕ). UsesData bytes → HasFront (docket_of bytes).used (named_file bytes y)) (sym docket) (λ uses. subst (HasFront (used_in x)) (sym file) (has uses))
 
-module _ (loaded : Loaded) (new : Encoded) (over : IsOver loaded.docket.items loaded.nodes.items new) where
+module _ (loaded : Loaded) (new : Encoded) (over : IsOver loaded.shown.items loaded.nodes.items new) where
   -- the loaded nodes, where they are written behind
   pub has_place : (s : Scene) → (0 < new.place → HasNodes loaded s) → HasPlace loaded.nodes.items new s.files
   has_place s nodes some =
-      let behind = is_behind loaded.docket.items loaded.nodes.items new over some in
+      let behind = is_behind loaded.shown.items loaded.nodes.items new over some in
       subst (λ (n : ℕ). IsFrontOf (s.files (data_name new.id)) n loaded.nodes.items) (sym behind.place)
-      (subst (λ (id : List ℕ). IsFrontOf (s.files (data_name id)) (docket_of loaded.docket.items).used loaded.nodes.items) behind.same (nodes some))
+      (subst (λ (id : List ℕ). IsFrontOf (s.files (data_name id)) (docket_of loaded.shown.items).used loaded.nodes.items) behind.same (nodes some))
 
   -- what stands is free, and so is what a crash may leave where it is solid
-  stands_in : (f : Files) → docket_in f ≡ loaded.docket.items → (0 < new.place → IsFrontOf (named_file loaded.docket.items f) (docket_of loaded.docket.items).used loaded.nodes.items) → IsFreeIn new f
+  stands_in : (f : Files) → shown_in f ≡ loaded.shown.items → (0 < new.place → IsFrontOf (named_file loaded.shown.items f) (docket_of loaded.shown.items).used loaded.nodes.items) → IsFreeIn new f
   stands_in f stands nodes named = elim over.by [
-    | inl anew ↦ absurd (next_other (docket_of loaded.docket.items).id new.id anew.next (sym (ap (λ (bytes : List ℕ). (docket_of bytes).id) stands) ∙ named))
+    | inl anew ↦ absurd (next_other (docket_of loaded.shown.items).id new.id anew.next (sym (ap (λ (bytes : List ℕ). (docket_of bytes).id) stands) ∙ named))
     | inr behind ↦
-        let used : used_in f ≡ (docket_of loaded.docket.items).used = ap (λ (bytes : List ℕ). (docket_of bytes).used) stands in (
+        let used : used_in f ≡ (docket_of loaded.shown.items).used = ap (λ (bytes : List ℕ). (docket_of bytes).used) stands in (
           omega (arith, used, behind.place),
           subst (λ (bytes : List ℕ). UsesData bytes → HasFront (docket_of bytes).used (named_file bytes f)) (sym stands)
-              (λ uses. front_of_nodes (docket_of loaded.docket.items).used loaded.nodes.items (named_file loaded.docket.items f) behind.long (nodes (omega (arith, behind.place, behind.some)))),
+              (λ uses. front_of_nodes (docket_of loaded.shown.items).used loaded.nodes.items (named_file loaded.shown.items f) behind.long (nodes (omega (arith, behind.place, behind.some)))),
         )
   ]
 
-  pub stands_free : (s : Scene) → Stands loaded.docket.items s → (0 < new.place → HasNodes loaded s) → IsFreeIn new s.files
+  pub stands_free : (s : Scene) → Stands loaded.shown.items s → (0 < new.place → HasNodes loaded s) → IsFreeIn new s.files
   stands_free s stands nodes = stands_in s.files stands nodes
 
   -- no docket that a crash may leave and that names the new identifier uses bytes behind the place, where none is ahead of the loaded one
-  pub latest_near : (s : Scene) → Stands loaded.docket.items s → IsLatest s → (c : Files) → s.leaves c → id_in c ≡ new.id → used_in c ≤ new.place
+  pub latest_near : (s : Scene) → Stands loaded.shown.items s → IsLatest s → (c : Files) → s.leaves c → id_in c ≡ new.id → used_in c ≤ new.place
   latest_near s stands latest c is named = elim over.by [
-    | inl anew ↦ absurd ((next_free loaded.docket.items s new.id stands latest anew.next).free c is named)
+    | inl anew ↦ absurd ((next_free loaded.shown.items s new.id stands latest anew.next).free c is named)
     | inr behind ↦
         let most : used_in c ≤ used_in s.files = latest.used c is (named ∙ sym behind.same ∙ sym (ap (λ (bytes : List ℕ). (docket_of bytes).id) stands)) in
-        let used : used_in s.files ≡ (docket_of loaded.docket.items).used = ap (λ (bytes : List ℕ). (docket_of bytes).used) stands in
+        let used : used_in s.files ≡ (docket_of loaded.shown.items).used = ap (λ (bytes : List ℕ). (docket_of bytes).used) stands in
         omega (arith, most, used, behind.place)
   ]
 
-  pub solid_free : (s : Scene) → Stands loaded.docket.items s → IsLatest s → (0 < new.place → IsSolid s) → IsFree new s
+  pub solid_free : (s : Scene) → Stands loaded.shown.items s → IsLatest s → (0 < new.place → IsSolid s) → IsFree new s
   solid_free s stands latest solid = record {
     each = λ c is named. (
       latest_near s stands latest c is named,
       elim over.by [
-        | inl anew ↦ absurd ((next_free loaded.docket.items s new.id stands latest anew.next).free c is named)
+        | inl anew ↦ absurd ((next_free loaded.shown.items s new.id stands latest anew.next).free c is named)
         | inr behind ↦ (solid (omega (arith, behind.place, behind.some))).front c is (named ∙ sym behind.same ∙ sym (ap (λ (bytes : List ℕ). (docket_of bytes).id) stands))
       ],
     );
   }
 
   -- no docket that a crash may leave names an identifier that comes after the new one, where none is ahead of the loaded one
-  pub not_after_new : (s : Scene) → Stands loaded.docket.items s → IsLatest s → (d : Files) → s.leaves d → (n : ℕ) → name_after n new.id ≡ Some (id_in d) → ⊥
+  pub not_after_new : (s : Scene) → Stands loaded.shown.items s → IsLatest s → (d : Files) → s.leaves d → (n : ℕ) → name_after n new.id ≡ Some (id_in d) → ⊥
   not_after_new s stands latest d is n after = elim over.by [
-    | inl anew ↦ latest.latest d is (suc n) (ap (λ (bytes : List ℕ). name_after (suc n) (docket_of bytes).id) stands ∙ later_still n (docket_of loaded.docket.items).id new.id (id_in d) anew.next after)
+    | inl anew ↦ latest.latest d is (suc n) (ap (λ (bytes : List ℕ). name_after (suc n) (docket_of bytes).id) stands ∙ later_still n (docket_of loaded.shown.items).id new.id (id_in d) anew.next after)
     | inr behind ↦ latest.latest d is n (ap (λ (bytes : List ℕ). name_after n (docket_of bytes).id) stands ∙ ap (name_after n) behind.same ∙ after)
   ]
 

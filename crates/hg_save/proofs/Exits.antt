@@ -137,10 +137,10 @@ module _ (loaded nodes : List ℕ) (new : Encoded) (over : IsOver loaded nodes n
 
 -- ---- what that says of the whole
 
-module _ (loaded : Loaded) (new : Encoded) (over : IsOver loaded.docket.items loaded.nodes.items new) (a z : Course) (there : (last_scene a).leaves (last_scene a).files) (ended : Ended loaded.docket.items loaded.nodes.items new a z) where
+module _ (loaded : Loaded) (new : Encoded) (over : IsOver loaded.shown.items loaded.nodes.items new) (a z : Course) (there : (last_scene a).leaves (last_scene a).files) (ended : Ended loaded.shown.items loaded.nodes.items new a z) where
   pub is_put : IsPut loaded new a z
   is_put =
-      let docket : List ℕ = loaded.docket.items in
+      let docket : List ℕ = loaded.shown.items in
       let nodes : List ℕ = loaded.nodes.items in
       let led = ended.led in
       record {

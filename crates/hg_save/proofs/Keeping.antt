@@ -9,7 +9,7 @@ use Rattle.hg_shelf.specs.Images.{Course, Goes, Remains, Scene, last_scene, scen
 use Rattle.hg_shelf.specs.Rules.{Surely, TornAt, TornFile, moved}
 use Rattle.hg_save.specs.Leads.{Clears, Leads, OnceBy, OwnSteps, StepBy}
 use Rattle.hg_save.specs.Others.{HasFront, StaysFront, named_file}
-use Rattle.hg_save.specs.Record.{data_name, docket_in, id_in}
+use Rattle.hg_save.specs.Record.{data_name, shown_in, id_in}
 use Rattle.hg_save.specs.Saved.{IsExact, IsOver, Stands, name_after, new_docket, used_in}
 use Rattle.hg_save.proofs.Names.{data_not_new, docket_not_data, docket_not_new, later_still, one_data}
 use Rattle.hg_save.proofs.Readings.{HasPlace, exact_used, long_nodes, same_docket, same_or_not}
@@ -36,7 +36,7 @@ torn_stays place n used (Some old) (Some new) near has torn = λ long. (omega (a
 -- a write beside
 keeping_beside : (n : ℕ) (x y : Files) → TornAt new_docket 0 n x y → IsKeepingUsed x y
 keeping_beside n x y torn =
-    let docket : docket_in y ≡ docket_in x = same_docket x y (torn.elsewhere (codes "dirstate") docket_not_new) in
+    let docket : shown_in y ≡ shown_in x = same_docket x y (torn.elsewhere (codes "dirstate") docket_not_new) in
     record {
       kept = λ one uses beyond. stays_by (docket_of one).used (named_file one x) (named_file one y) (torn.elsewhere (data_name (docket_of one).id) (data_not_new (docket_of one).id));
       there = has_still x y docket (torn.elsewhere (data_name (id_in x)) (data_not_new (id_in x)));
@@ -45,7 +45,7 @@ keeping_beside n x y torn =
 
 module _ (loaded nodes : List ℕ) (new : Encoded) (over : IsOver loaded nodes new) where
   -- where the loaded docket stands, one that isn't beyond it and names the new identifier uses at most the bytes before the place
-  near : (x : Files) → docket_in x ≡ loaded → (docket : List ℕ) → IsNotBeyond x docket → (docket_of docket).id ≡ new.id → (docket_of docket).used ≤ new.place
+  near : (x : Files) → shown_in x ≡ loaded → (docket : List ℕ) → IsNotBeyond x docket → (docket_of docket).id ≡ new.id → (docket_of docket).used ≤ new.place
   near x stands docket beyond named = elim over.by [
     | inl anew ↦ absurd (beyond.ahead 0 (ap (λ (bytes : List ℕ). next_name (docket_of bytes).id) stands ∙ anew.next ∙ ap (λ (id : List ℕ). Some id) (sym named)))
     | inr behind ↦
@@ -59,7 +59,7 @@ module _ (loaded nodes : List ℕ) (new : Encoded) (over : IsOver loaded nodes n
   torn_kept used old now most some has torn = torn_stays new.place (length new.bytes.items) used old now most (has (omega (arith, most, some))) torn
 
   -- a write of the data file
-  keeping_data : (x y : Files) → docket_in x ≡ loaded → (0 < new.place → HasFront new.place (x (data_name new.id))) → TornAt (data_name new.id) new.place (length new.bytes.items) x y → IsKeepingUsed x y
+  keeping_data : (x y : Files) → shown_in x ≡ loaded → (0 < new.place → HasFront new.place (x (data_name new.id))) → TornAt (data_name new.id) new.place (length new.bytes.items) x y → IsKeepingUsed x y
   keeping_data x y stands has torn =
       let docket : y (codes "dirstate") ≡ x (codes "dirstate") = torn.elsewhere (codes "dirstate") (docket_not_data new.id) in
       record {
@@ -77,7 +77,7 @@ module _ (loaded nodes : List ℕ) (new : Encoded) (over : IsOver loaded nodes n
       }
 
   -- what isn't beyond the loaded docket isn't beyond the new one
-  beyond_new : (start x y : Files) → docket_in x ≡ loaded → IsExact new start y → (docket : List ℕ) → IsNotBeyond x docket → IsNotBeyond y docket
+  beyond_new : (start x y : Files) → shown_in x ≡ loaded → IsExact new start y → (docket : List ℕ) → IsNotBeyond x docket → IsNotBeyond y docket
   beyond_new start x y stands exact docket is = record {
     ahead = λ n after. elim over.by [
       | inl anew ↦
@@ -92,7 +92,7 @@ module _ (loaded nodes : List ℕ) (new : Encoded) (over : IsOver loaded nodes n
   }
 
   -- the docket takes its place
-  keeping_moved : (start x y : Files) → docket_in x ≡ loaded → IsBeside new start x → Surely (moved new_docket (codes "dirstate")) x y → IsKeepingUsed x y
+  keeping_moved : (start x y : Files) → shown_in x ≡ loaded → IsBeside new start x → Surely (moved new_docket (codes "dirstate")) x y → IsKeepingUsed x y
   keeping_moved start x y stands beside moves =
       let exact : IsExact new start y = exact_moved loaded nodes new over start x y beside moves in
       record {
@@ -101,10 +101,10 @@ module _ (loaded nodes : List ℕ) (new : Encoded) (over : IsOver loaded nodes n
         beyond = beyond_new start x y stands exact;
       }
 
-  keeping_once : (start : Files) (s x y : Scene) → docket_in s.files ≡ loaded → IsBeside new start s.files → OnceBy s (moved new_docket (codes "dirstate")) x y → Keeping x y
+  keeping_once : (start : Files) (s x y : Scene) → shown_in s.files ≡ loaded → IsBeside new start s.files → OnceBy s (moved new_docket (codes "dirstate")) x y → Keeping x y
   keeping_once start s x y stands beside (inl still) = subst (IsKeepingUsed x.files) (sym still.shown) (keeping_itself x.files)
   keeping_once start s x y stands beside (inr first) =
-      keeping_moved start x.files y.files (ap docket_in first.since.shown ∙ stands) (subst (IsBeside new start) (sym first.since.shown) beside) first.shown
+      keeping_moved start x.files y.files (ap shown_in first.since.shown ∙ stands) (subst (IsBeside new start) (sym first.since.shown) beside) first.shown
 
   -- the old data file goes
   keeping_cleared : (start x y : Files) → IsExact new start x → Clears (docket_of loaded).id new.id x y → IsKeepingUsed x y
@@ -124,7 +124,7 @@ module _ (loaded nodes : List ℕ) (new : Encoded) (over : IsOver loaded nodes n
   -- ---- the parts of a call
 
   module _ (a : Course) (stands : Stands loaded (last_scene a)) (front : HasPlace nodes new (last_scene a).files) where
-    stands_by : (f : Files) → Prepares new (last_scene a).files f → docket_in f ≡ loaded
+    stands_by : (f : Files) → Prepares new (last_scene a).files f → shown_in f ≡ loaded
     stands_by f is = same_docket (last_scene a).files f is.unplaced.docket ∙ stands
 
     front_by : (f : Files) → Prepares new (last_scene a).files f → 0 < new.place → HasFront new.place (f (data_name new.id))

@@ -258,15 +258,16 @@ sound_read bytes nodes d sound is =
 
 -- the data file was read
 pub named_read : (old new : History) (bytes nodes : List ℕ) (d : Contents) (loaded : Loaded) → docket_refusal bytes ≡ None → d ≡ docket_of bytes → DataFindsDuring old new d (Ok nodes)
-    → loaded.docket.items ≡ bytes → loaded.nodes.items ≡ nodes → NamedFinds old new bytes (Ok loaded)
-named_read old new bytes nodes d loaded sound is finds docket kept = record {
+    → loaded.docket.items ≡ bytes → loaded.shown.items ≡ bytes → loaded.nodes.items ≡ nodes → NamedFinds old new bytes (Ok loaded)
+named_read old new bytes nodes d loaded sound is finds docket shown kept = record {
   at = finds.at;
   file = finds.file;
   answer = record {
     docket = docket;
+    shown = shown;
     reading =
         named_sound bytes (files_at new finds.at) d sound is ∙ read_of d nodes (data_in d (files_at new finds.at)) finds.finds
-        ∙ ap (λ (r : Result Table RecordFault). Some r) (sound_read bytes nodes d sound is ∙ (λ i. reading_of (sym docket i) (sym kept i)));
+        ∙ ap (λ (r : Result Table RecordFault). Some r) (sound_read bytes nodes d sound is ∙ (λ i. reading_of (sym shown i) (sym kept i)));
   };
   nodes = subst (ReadsAsOf new finds.at (docket_of bytes)) (sym kept) (subst (λ (c : Contents). ReadsAsOf new finds.at c nodes) is finds.nodes);
 }

@@ -7,7 +7,7 @@ use Rattle.hg_shelf.specs.Images.{Course, Goes, Remains, Scene, last_scene, scen
 use Rattle.hg_shelf.specs.Rules.{Perhaps, TornAt, content, moved}
 use Rattle.hg_save.specs.Leads.{Clears, FirstBy, Leads, OnceBy, OwnSteps, StepBy}
 use Rattle.hg_save.specs.Others.{HasFront, IsOrderly, IsPublication, KeepsRecords, RecordsAs}
-use Rattle.hg_save.specs.Record.{IsReadable, data_name, docket_in, id_in, reading}
+use Rattle.hg_save.specs.Record.{IsReadable, data_name, shown_in, id_in, reading}
 use Rattle.hg_save.specs.Saved.{IsExact, IsOver, name_after, new_docket, published, used_in}
 use Rattle.hg_save.proofs.Names.{data_not_new, docket_not_data, docket_not_new, never_itself}
 use Rattle.hg_save.proofs.Published.{latest_still}
@@ -19,17 +19,17 @@ use Rattle.hg_save.proofs.Stages.{IsBeside, IsWritten, Prepares, exact_cleared, 
 -- ---- one step
 
 -- it was no publication, and whatever a crash leaves behind it records what it might have left before
-kept_orderly : (x y : Scene) → docket_in y.files ≡ docket_in x.files → ((c : Files) → y.leaves c → (d : Files) × x.leaves d × RecordsAs d c) → IsOrderly x y
+kept_orderly : (x y : Scene) → shown_in y.files ≡ shown_in x.files → ((c : Files) → y.leaves c → (d : Files) × x.leaves d × RecordsAs d c) → IsOrderly x y
 kept_orderly x y same left = record { left = λ c is. inl (left c is); sound = λ fresh. absurd (fresh same); latest = λ fresh. absurd (fresh same) }
 
 still_orderly : (x y : Scene) → Remains x y → IsOrderly x y
-still_orderly x y still = kept_orderly x y (ap docket_in still.shown) (λ c is. (c, still.left c is, record { docket = refl; read = refl }))
+still_orderly x y still = kept_orderly x y (ap shown_in still.shown) (λ c is. (c, still.left c is, record { docket = refl; read = refl }))
 
 -- the same step, among more moments
 pub orderly_along : (x y u v : Scene) → Remains x u → Remains u x → Remains y v → IsOrderly x y → IsOrderly u v
 orderly_along x y u v there back behind step =
-    let before : docket_in u.files ≡ docket_in x.files = ap docket_in there.shown in
-    let after : docket_in v.files ≡ docket_in y.files = ap docket_in behind.shown in
+    let before : shown_in u.files ≡ shown_in x.files = ap shown_in there.shown in
+    let after : shown_in v.files ≡ shown_in y.files = ap shown_in behind.shown in
     record {
       left = λ c is. elim (step.left c (behind.left c is)) [
         | inl was ↦ inl (was.0, back.left was.0 was.1, was.2)
@@ -95,7 +95,7 @@ module _ (loaded nodes : List ℕ) (new : Encoded) (over : IsOver loaded nodes n
       moved_to : (f : Files) → IsExact new (last_scene a).files f → RecordsAs y.files f
       moved_to f is = record { docket = same_docket y.files f (is.docket ∙ sym exact.docket); read = read_by f is ∙ sym (read_by y.files exact) }
 
-      read_before : docket_in y.files ≡ docket_in x.files → RecordsAs x.files y.files
+      read_before : shown_in y.files ≡ shown_in x.files → RecordsAs x.files y.files
       read_before same = record {
         docket = same;
         read = sym (stays_read y.files x.files (sym same) (λ uses.
@@ -108,7 +108,7 @@ module _ (loaded nodes : List ℕ) (new : Encoded) (over : IsOver loaded nodes n
             }));
       }
 
-      left_moved : (f : Files) → IsExact new (last_scene a).files f → (docket_in y.files ≡ docket_in x.files) ⊎ (docket_in y.files ≡ docket_in x.files → ⊥) → ((d : Files) × x.leaves d × RecordsAs d f) ⊎ (IsPublication x y × RecordsAs y.files f)
+      left_moved : (f : Files) → IsExact new (last_scene a).files f → (shown_in y.files ≡ shown_in x.files) ⊎ (shown_in y.files ≡ shown_in x.files → ⊥) → ((d : Files) × x.leaves d × RecordsAs d f) ⊎ (IsPublication x y × RecordsAs y.files f)
       left_moved f is (inr fresh) = inr (fresh, moved_to f is)
       left_moved f is (inl same) =
           let to = moved_to f is in
@@ -117,7 +117,7 @@ module _ (loaded nodes : List ℕ) (new : Encoded) (over : IsOver loaded nodes n
 
       left_by : (d f : Files) → x.leaves d → Perhaps (moved new_docket (codes "dirstate")) d f → ((d : Files) × x.leaves d × RecordsAs d f) ⊎ (IsPublication x y × RecordsAs y.files f)
       left_by d f is (inl same) = inl (d, is, record { docket = same_docket d f (same (codes "dirstate")); read = same_reading d f (same (codes "dirstate")) (same (data_name (id_in d))) })
-      left_by d f is (inr moves) = left_moved f (exact_from d f is moves) (same_or_not (docket_in y.files) (docket_in x.files))
+      left_by d f is (inr moves) = left_moved f (exact_from d f is moves) (same_or_not (shown_in y.files) (shown_in x.files))
 
       named_by : (d f : Files) → x.leaves d → Perhaps (moved new_docket (codes "dirstate")) d f → (n : ℕ) → name_after n new.id ≡ Some (id_in f) → ⊥
       named_by d f is (inl same) n after = set.none d (step.since.left d is) n (after ∙ ap (λ (id : List ℕ). Some id) (same_id d f (same (codes "dirstate"))))
@@ -150,7 +150,7 @@ module _ (loaded nodes : List ℕ) (new : Encoded) (over : IsOver loaded nodes n
 
     -- ---- the old data file goes
 
-    docket_stays : (d f : Files) → Clears (docket_of loaded).id new.id d f → docket_in f ≡ docket_in d
+    docket_stays : (d f : Files) → Clears (docket_of loaded).id new.id d f → shown_in f ≡ shown_in d
     docket_stays d f (inl same) = same_docket d f (same (codes "dirstate"))
     docket_stays d f (inr gone) = same_docket d f (gone.gone (codes "dirstate"))
 

@@ -13,7 +13,7 @@ use Rattle.hg_save.proofs.Loads.{last_within, named_refused, named_sound}
 use Rattle.hg_save.proofs.Tails.{front_same}
 use Rattle.hg_save.specs.Loads.{IsTry, Loads, ReadsUsed, Tries, Try, files_at, found_by}
 use Rattle.hg_save.specs.Others.{HasFront, IsFrontOf, KeepData, KeepsFront, UsesData, WasLoaded, WasRecorded, named_file}
-use Rattle.hg_save.specs.Record.{data_in, data_name, docket_in, named_reading}
+use Rattle.hg_save.specs.Record.{data_in, data_name, shown_in, named_reading}
 use Rattle.hg_save.specs.declared.load_fault.LoadFault.{LoadFault}
 use Rattle.hg_save.specs.declared.load_fault.LoadFault.TheVariants as a_fault
 use Rattle.hg_save.specs.declared.loaded.Loaded.{Loaded}
@@ -59,7 +59,7 @@ kept_by bytes early late recorded keeps None sound is =
 -- what a try found was recorded at the moment of its docket
 pub tried_record : (old new : History) (tried : Try) (recorded : Result Table RecordFault) → KeepData new old.last → IsTry old new tried → found_by new tried ≡ Some recorded → WasRecorded old new recorded
 tried_record old new tried recorded keep within is =
-    let bytes : List ℕ = docket_in (files_at new tried.docket) in
+    let bytes : List ℕ = shown_in (files_at new tried.docket) in
     record {
       at = tried.docket;
       during = within.docket;
@@ -75,8 +75,8 @@ pub was_recorded : (old new : History) (tries : List Try) (result : Result Loade
 was_recorded old new tries result recorded keep load is = last_record old new tries recorded keep load.tried is
 
 -- a load found the record of one moment
-pub one_record : (old new : History) (tries : List Try) (loaded : Loaded) → KeepData new old.last → Loads old new tries (Ok loaded) → WasRecorded old new (reading_of loaded.docket.items loaded.nodes.items)
-one_record old new tries loaded keep load = was_recorded old new tries (Ok loaded) (reading_of loaded.docket.items loaded.nodes.items) keep load load.answer.reading
+pub one_record : (old new : History) (tries : List Try) (loaded : Loaded) → KeepData new old.last → Loads old new tries (Ok loaded) → WasRecorded old new (reading_of loaded.shown.items loaded.nodes.items)
+one_record old new tries loaded keep load = was_recorded old new tries (Ok loaded) (reading_of loaded.shown.items loaded.nodes.items) keep load load.answer.reading
 
 -- ---- the bytes
 
@@ -101,18 +101,18 @@ exact_by h at d nodes early late has keeps (inr some) reads =
     (exact_kept h at d nodes (early (data_name d.id)) (late (data_name d.id)) (has uses) (keeps uses) (subst (ReadsUsed h at d nodes) (used_in d late uses) reads))
 
 -- a load found the bytes of one moment
-pub one_load : (old new : History) (tries : List Try) (loaded : Loaded) → KeepData new old.last → Loads old new tries (Ok loaded) → docket_refusal loaded.docket.items ≡ None → WasLoaded old new loaded
+pub one_load : (old new : History) (tries : List Try) (loaded : Loaded) → KeepData new old.last → Loads old new tries (Ok loaded) → docket_refusal loaded.shown.items ≡ None → WasLoaded old new loaded
 one_load old new tries loaded keep load sound =
     let tried : Try = load.tried.last in
     let within = last_within old new tries load.tried in
-    let bytes : List ℕ = docket_in (files_at new tried.docket) in
-    let whole : docket_refusal bytes ≡ None = ap docket_refusal (sym load.answer.docket) ∙ sound in
+    let bytes : List ℕ = shown_in (files_at new tried.docket) in
+    let whole : docket_refusal bytes ≡ None = ap docket_refusal (sym load.answer.shown) ∙ sound in
     record {
       at = tried.docket;
       during = within.docket;
-      docket = sym load.answer.docket;
+      docket = sym load.answer.shown;
       nodes =
-          subst (λ (l : List ℕ). IsFrontOf (data_in (docket_of l) (files_at new tried.docket)) (docket_of l).used loaded.nodes.items) (sym load.answer.docket)
+          subst (λ (l : List ℕ). IsFrontOf (data_in (docket_of l) (files_at new tried.docket)) (docket_of l).used loaded.nodes.items) (sym load.answer.shown)
           (exact_by new tried.file (docket_of bytes) loaded.nodes.items (files_at new tried.docket) (files_at new tried.file)
           (λ uses. keep.there tried.docket within.docket.from within.docket.to (record { sound = whole; uses = uses }))
           (λ uses. keep.kept tried.docket tried.file within.docket.from within.order within.file.to (record { sound = whole; uses = uses })) (cases_eq (docket_of bytes).used 0) load.nodes);
@@ -148,7 +148,7 @@ pub one_fault : (old new : History) (tries : List Try) (fault : DocketFault) →
 one_fault old new tries fault load =
     let tried : Try = load.tried.last in
     let within = last_within old new tries load.tried in
-    let bytes : List ℕ = docket_in (files_at new tried.docket) in
+    let bytes : List ℕ = shown_in (files_at new tried.docket) in
     record {
       at = tried.docket;
       during = within.docket;

@@ -11,7 +11,7 @@ use Rattle.hg_shelf.specs.Images.{Course, Goes, Remains, Scene, scene}
 use Rattle.hg_shelf.specs.Polite.{OthersOnlyRead}
 use Rattle.hg_docket.specs.Docket.{docket_of}
 use Rattle.hg_save.specs.Others.{IsOrderly, IsPublication, KeepsRecords, RecordsAs, WasPublished}
-use Rattle.hg_save.specs.Record.{IsReadable, docket_in, id_in, reading}
+use Rattle.hg_save.specs.Record.{IsReadable, shown_in, id_in, reading}
 use Rattle.hg_save.specs.Saved.{IsLatest, name_after, used_in}
 
 -- what was published by a moment was by a later one
@@ -50,12 +50,12 @@ latest_still a b still is = record {
 -- a step between scenes that are the same keeps to the same
 pub orderly_same : (a b x y : Scene) → Remains a x → Remains x a → Remains b y → Remains y b → IsOrderly a b → IsOrderly x y
 orderly_same a b x y to back there from step =
-    let fresh : IsPublication x y → IsPublication a b = λ is same. is (ap docket_in there.shown ∙ same ∙ ap docket_in back.shown) in
+    let fresh : IsPublication x y → IsPublication a b = λ is same. is (ap shown_in there.shown ∙ same ∙ ap shown_in back.shown) in
     record {
       left = λ c left. elim (step.left c (there.left c left)) [
         | inl was ↦ inl (was.0, back.left was.0 was.1, was.2)
         | inr new ↦ inr (
-          (λ same. new.0 (ap docket_in from.shown ∙ same ∙ ap docket_in to.shown)),
+          (λ same. new.0 (ap shown_in from.shown ∙ same ∙ ap shown_in to.shown)),
           subst (λ (f : Files). RecordsAs f c) (sym there.shown) new.1,
         )
       ];
@@ -92,11 +92,11 @@ published_sound c start end r keep within was =
 -- ---- one step
 
 -- another docket came to stand or not
-fresh_or_same : (before behind : Scene) → IsPublication before behind ⊎ (docket_in behind.files ≡ docket_in before.files)
-fresh_or_same before behind = by_test (bytes_eq (docket_in behind.files) (docket_in before.files)) refl where
-  by_test : (t : Bool) → bytes_eq (docket_in behind.files) (docket_in before.files) ≡ t → IsPublication before behind ⊎ (docket_in behind.files ≡ docket_in before.files)
-  by_test true is = inr (same_bytes (docket_in behind.files) (docket_in before.files) is)
-  by_test false is = inl (λ same. let test : bytes_eq (docket_in behind.files) (docket_in before.files) ≡ true = (bytes_eq-Decides (docket_in behind.files) (docket_in before.files)).1 same in cc (sym is ∙ test))
+fresh_or_same : (before behind : Scene) → IsPublication before behind ⊎ (shown_in behind.files ≡ shown_in before.files)
+fresh_or_same before behind = by_test (bytes_eq (shown_in behind.files) (shown_in before.files)) refl where
+  by_test : (t : Bool) → bytes_eq (shown_in behind.files) (shown_in before.files) ≡ t → IsPublication before behind ⊎ (shown_in behind.files ≡ shown_in before.files)
+  by_test true is = inr (same_bytes (shown_in behind.files) (shown_in before.files) is)
+  by_test false is = inl (λ same. let test : bytes_eq (shown_in behind.files) (shown_in before.files) ≡ true = (bytes_eq-Decides (shown_in behind.files) (shown_in before.files)).1 same in cc (sym is ∙ test))
 
 latest_orderly : (a b : Scene) → IsOrderly a b → IsLatest a → IsLatest b
 latest_orderly a b step is = elim (fresh_or_same a b) [

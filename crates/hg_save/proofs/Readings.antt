@@ -15,7 +15,7 @@ use Rattle.hg_image.specs.Reading.{RecordFault, data_reading, docket_reading, of
 use Rattle.hg_shelf.specs.History.{Files}
 use Rattle.hg_shelf.specs.Rules.{content, overwritten}
 use Rattle.hg_save.specs.Others.{HasFront, IsFrontOf, UsesData, named_file}
-use Rattle.hg_save.specs.Record.{data_in, data_name, docket_in, id_in, named_reading, needed_in, reading}
+use Rattle.hg_save.specs.Record.{data_in, data_name, shown_in, id_in, named_reading, needed_in, reading}
 use Rattle.hg_save.specs.Saved.{IsAnew, IsBehind, IsExact, IsOver, new_docket, published, used_in}
 use Rattle.hg_save.proofs.Names.{next_len}
 use Rattle.hg_save.proofs.Tails.{Followed, followed as is_followed, front_same}
@@ -38,9 +38,9 @@ needed_same None d old new same = ap (λ (file : Option (List ℕ)). cond (d.use
 pub same_reading : (old new : Files) → new (codes "dirstate") ≡ old (codes "dirstate") → new (data_name (id_in old)) ≡ old (data_name (id_in old)) → reading new ≡ reading old
 same_reading old new docket file =
     ap (λ (bytes : Option (List ℕ)). named_reading (take 512 (content bytes)) new) docket
-    ∙ ap (option_map (reading_of (docket_in old))) (needed_same (docket_refusal (docket_in old)) (docket_of (docket_in old)) old new file)
+    ∙ ap (option_map (reading_of (shown_in old))) (needed_same (docket_refusal (shown_in old)) (docket_of (shown_in old)) old new file)
 
-pub same_docket : (old new : Files) → new (codes "dirstate") ≡ old (codes "dirstate") → docket_in new ≡ docket_in old
+pub same_docket : (old new : Files) → new (codes "dirstate") ≡ old (codes "dirstate") → shown_in new ≡ shown_in old
 same_docket old new same = ap (λ (file : Option (List ℕ)). take 512 (content file)) same
 
 pub same_id : (old new : Files) → new (codes "dirstate") ≡ old (codes "dirstate") → id_in new ≡ id_in old
@@ -94,10 +94,10 @@ needed_reads bytes old new stays (Some fault) is = refl
 needed_reads bytes old new stays None sound = data_reads bytes old new sound stays (cases_eq (docket_of bytes).used 0)
 
 -- a reading stays where the docket does, and the bytes of its data file that it uses
-pub stays_read : (old new : Files) → docket_in new ≡ docket_in old → (UsesData (docket_in old) → StaysUsed (docket_in old) old new) → reading new ≡ reading old
+pub stays_read : (old new : Files) → shown_in new ≡ shown_in old → (UsesData (shown_in old) → StaysUsed (shown_in old) old new) → reading new ≡ reading old
 stays_read old new docket stays =
     ap (λ (bytes : List ℕ). named_reading bytes new) docket
-    ∙ needed_reads (docket_in old) old new stays (docket_refusal (docket_in old)) refl
+    ∙ needed_reads (shown_in old) old new stays (docket_refusal (shown_in old)) refl
 
 -- ---- what is published
 
@@ -205,7 +205,7 @@ module _ (loaded nodes : List ℕ) (new : Encoded) (over : IsOver loaded nodes n
   -- the docket that is read, where the new one stands
   record Shown (f : Files) : Type 0 where
     pub tail : List ℕ
-    pub is : docket_in f ≡ new.docket.items ++ tail
+    pub is : shown_in f ≡ new.docket.items ++ tail
     pub followed : Followed new.docket.items tail
 
   shown : (f : Files) → Begins new.docket.items (f (codes "dirstate")) → Shown f

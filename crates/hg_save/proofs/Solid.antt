@@ -4,8 +4,8 @@ use Rattle.hg_docket.specs.Docket.{docket_of}
 use Rattle.hg_docket.proofs.Branches.{chosen, not_zero}
 use Rattle.hg_image.specs.Reading.{reading_of}
 use Rattle.hg_save.proofs.Long.{front_sound}
-use Rattle.hg_save.specs.Others.{HasData, UsesData, named_file}
-use Rattle.hg_save.specs.Record.{IsReadable, data_name, docket_in, named_reading, needed_in, reading}
+use Rattle.hg_save.specs.Others.{HasData, UsesData, named_file, nodes_in}
+use Rattle.hg_save.specs.Record.{IsReadable, data_name, shown_in, named_reading, needed_in, reading}
 use Rattle.hg_save.specs.Saved.{IsLatest}
 use Rattle.hg_save.specs.Behind.{IsSolid}
 use Rattle.hg_shelf.specs.History.{Files}
@@ -20,7 +20,7 @@ named_is bytes f uses =
 
 -- so the data is there where what files record is sound
 pub sound_data : (c : Files) → IsReadable (reading c) → HasData c
-sound_data c (t, is) = λ uses. front_sound (docket_in c) (named_file (docket_in c) c) t uses (sym (named_is (docket_in c) c uses) ∙ is)
+sound_data c (t, is) = λ uses. front_sound (shown_in c) (nodes_in c) t uses (sym (named_is (shown_in c) c uses) ∙ is)
 
 pub sound_solid : (s : Scene) → ((c : Files) → s.leaves c → IsReadable (reading c)) → IsLatest s → IsSolid s
 sound_solid s sound latest = record { used = latest.used; front = λ c left same. sound_data c (sound c left) }

@@ -5,7 +5,7 @@ use Rattle.hg_shelf.specs.History.{Files, History, Who}
 use Rattle.hg_save.specs.Loads.{files_at}
 use Rattle.hg_save.specs.Behind.{IsKeepingUsed, IsNotBeyond, KeepsUsed}
 use Rattle.hg_save.specs.Others.{HasData, HasFront, IsNotAhead, KeepData, KeepsFront, KeepsStood, StaysFront, UsesData, named_file}
-use Rattle.hg_save.specs.Record.{docket_in, id_in}
+use Rattle.hg_save.specs.Record.{shown_in, id_in}
 use Rattle.hg_save.specs.Saved.{used_in}
 use Rattle.hg_save.proofs.Names.{never_itself}
 
@@ -45,10 +45,10 @@ module _ (h : History) (from : ℕ) (start : HasData (files_at h from)) (keeps :
   has_from : (k : ℕ) → from ≤ k → k ≤ h.last → HasData (files_at h k)
   has_from k after within = has_at (k - from) k (omega (arith, after)) within
 
-  module _ (k : ℕ) (after : from ≤ k) (uses : UsesData (docket_in (files_at h k))) where
+  module _ (k : ℕ) (after : from ≤ k) (uses : UsesData (shown_in (files_at h k))) where
     -- the file of the docket of that moment, at one
     abbrev file_at : ℕ → Option (List ℕ)
-    file_at m = named_file (docket_in (files_at h k)) (files_at h m)
+    file_at m = named_file (shown_in (files_at h k)) (files_at h m)
 
     kept_at : (n m : ℕ) → m ≡ k + n → m ≤ h.last → KeepsFront (used_in (files_at h k)) (file_at k) (file_at m)
     kept_at zero m at within =
@@ -73,11 +73,11 @@ keep_stood h from told start keeps = record {
 -- ---- the dockets that have stood
 
 -- no docket is beyond itself
-not_beyond_itself : (files : Files) → IsNotBeyond files (docket_in files)
+not_beyond_itself : (files : Files) → IsNotBeyond files (shown_in files)
 not_beyond_itself files = record { ahead = λ n. never_itself n (id_in files); used = λ same. omega arith }
 
 -- what isn't beyond a docket isn't where it stays
-pub beyond_still : (x y : Files) → docket_in y ≡ docket_in x → (docket : List ℕ) → IsNotBeyond x docket → IsNotBeyond y docket
+pub beyond_still : (x y : Files) → shown_in y ≡ shown_in x → (docket : List ℕ) → IsNotBeyond x docket → IsNotBeyond y docket
 beyond_still x y same docket is = record {
   ahead = subst (λ (bytes : List ℕ). IsNotAhead (docket_of bytes).id (docket_of docket).id) (sym same) is.ahead;
   used = subst (λ (bytes : List ℕ). (docket_of docket).id ≡ (docket_of bytes).id → (docket_of docket).used ≤ (docket_of bytes).used) (sym same) is.used;
@@ -87,20 +87,20 @@ pub keeping_itself : (x : Files) → IsKeepingUsed x x
 keeping_itself x = record { kept = λ docket uses beyond. stays_itself (docket_of docket).used (named_file docket x); there = λ has. has; beyond = λ docket is. is }
 
 -- a step that keeps the bytes of all dockets that aren't beyond keeps the data of those that have stood, where none of these is
-pub stood_by : (h : History) (from k : ℕ) → IsKeepingUsed (files_at h k) (files_at h (k + 1)) → ((j : ℕ) → from ≤ j → j ≤ k → IsNotBeyond (files_at h k) (docket_in (files_at h j))) → KeepsStood h from k
-stood_by h from k step behind = record { kept = λ j after before uses. step.kept (docket_in (files_at h j)) uses (behind j after before); there = step.there }
+pub stood_by : (h : History) (from k : ℕ) → IsKeepingUsed (files_at h k) (files_at h (k + 1)) → ((j : ℕ) → from ≤ j → j ≤ k → IsNotBeyond (files_at h k) (shown_in (files_at h j))) → KeepsStood h from k
+stood_by h from k step behind = record { kept = λ j after before uses. step.kept (shown_in (files_at h j)) uses (behind j after before); there = step.there }
 
 -- where all steps do, no docket that has stood is beyond
 module _ (h : History) (from : ℕ) (keeps : (by : Who) → KeepsUsed by h from) where
   step_at : (k : ℕ) → from ≤ k → k < h.last → IsKeepingUsed (files_at h k) (files_at h (k + 1))
   step_at k after before = (keeps (h.who k)).each k after before refl
 
-  behind_at : (j : ℕ) → from ≤ j → (n k : ℕ) → k ≡ j + n → k ≤ h.last → IsNotBeyond (files_at h k) (docket_in (files_at h j))
-  behind_at j after zero k at within = subst (λ (m : ℕ). IsNotBeyond (files_at h m) (docket_in (files_at h j))) (omega (arith, at)) (not_beyond_itself (files_at h j))
+  behind_at : (j : ℕ) → from ≤ j → (n k : ℕ) → k ≡ j + n → k ≤ h.last → IsNotBeyond (files_at h k) (shown_in (files_at h j))
+  behind_at j after zero k at within = subst (λ (m : ℕ). IsNotBeyond (files_at h m) (shown_in (files_at h j))) (omega (arith, at)) (not_beyond_itself (files_at h j))
   behind_at j after (suc n) k at within =
       let next : j + n + 1 ≡ k = omega (arith, at) in
-      subst (λ (m : ℕ). IsNotBeyond (files_at h m) (docket_in (files_at h j))) next
-      ((step_at (j + n) (omega (arith, after)) (omega (arith, next, within))).beyond (docket_in (files_at h j)) (behind_at j after n (j + n) refl (omega (arith, next, within))))
+      subst (λ (m : ℕ). IsNotBeyond (files_at h m) (shown_in (files_at h j))) next
+      ((step_at (j + n) (omega (arith, after)) (omega (arith, next, within))).beyond (shown_in (files_at h j)) (behind_at j after n (j + n) refl (omega (arith, next, within))))
 
   all_stood : (k : ℕ) → from ≤ k → k < h.last → KeepsStood h from k
   all_stood k after before = stood_by h from k (step_at k after before) (λ j since upto. behind_at j since (k - j) k (omega (arith, upto)) (omega (arith, before)))

@@ -19,8 +19,8 @@ use Rattle.hg_mixed.specs.Held.{Held, is_lent, table}
 use Rattle.hg_mixed.specs.Shown.{list_place}
 use Rattle.hg_save.specs.Over.{HasUsed, IsEncoded, IsEncodedBy, IsGround, IsPut, IsPutOver, IsRecorded, KeepsLists, KeepsOthersBy, LeavesLists}
 use Rattle.hg_save.specs.Leads.{Leads}
-use Rattle.hg_save.specs.Others.{named_file}
-use Rattle.hg_save.specs.Record.{data_name, docket_in}
+use Rattle.hg_save.specs.Others.{nodes_in}
+use Rattle.hg_save.specs.Record.{data_name, shown_in}
 use Rattle.hg_save.specs.Saved.{HoldsExactly, IsBehind, IsExact, IsOver, KeepsOthers, LeavesOnly, Records, ShowsOnly, published}
 use Rattle.hg_save.specs.declared.loaded.Loaded.{Loaded}
 use Rattle.hg_save.specs.Behind.{HasNodes, IsBase, KeepsUsedBytes}
@@ -42,36 +42,36 @@ can_encode held a_way.Append is = sym is
 
 -- a table that was encoded over a record by the better way
 pub record IsMade (held : Held) (loaded : Loaded) (new : Encoded) (found : Table) : Type 0 where
-  pub docket : held.docket ≡ docket_of loaded.docket.items
+  pub docket : held.docket ≡ docket_of loaded.shown.items
   pub nodes : held.bytes ≡ loaded.nodes.items
   pub is : IsEncoded held new found
-  pub over : IsOver loaded.docket.items loaded.nodes.items new
+  pub over : IsOver loaded.shown.items loaded.nodes.items new
 
 -- so is what `encode` answers
-pub made_by : (held : Held) (loaded : Loaded) (new : Encoded) (way : Way) → way ≡ plan_of held → held.docket ≡ docket_of loaded.docket.items → held.bytes ≡ loaded.nodes.items
+pub made_by : (held : Held) (loaded : Loaded) (new : Encoded) (way : Way) → way ≡ plan_of held → held.docket ≡ docket_of loaded.shown.items → held.bytes ≡ loaded.nodes.items
     → (plan_of held ≡ a_way.Append → IsOverImage held) → (way ≡ a_way.Rewrite → IsWritten held new) → (way ≡ a_way.Append → IsAppended held new)
     → (reads : ReadsAs (table held) (reading_of new.docket.items (file_of held new))) → IsMade held loaded new reads.found
 made_by held loaded new a_way.Rewrite best docket nodes image written appended reads = record {
   docket = docket;
   nodes = nodes;
   is = record { by = subst (λ (w : Way). IsEncodedBy w held new) best (written refl); reads = reads.is; same = reads.same };
-  over = goes_over loaded.docket.items loaded.nodes.items held new (file_of held new) (ap (λ (c : Contents). c.id) docket) (written refl) reads;
+  over = goes_over loaded.shown.items loaded.nodes.items held new (file_of held new) (ap (λ (c : Contents). c.id) docket) (written refl) reads;
 }
 made_by held loaded new a_way.Append best docket nodes image written appended reads = record {
   docket = docket;
   nodes = nodes;
   is = record { by = subst (λ (w : Way). IsEncodedBy w held new) best (appended refl); reads = reads.is; same = reads.same };
-  over = goes_behind loaded.docket.items loaded.nodes.items held new (file_of held new) docket nodes (image (sym best)) (sym best) (appended refl) reads;
+  over = goes_behind loaded.shown.items loaded.nodes.items held new (file_of held new) docket nodes (image (sym best)) (sym best) (appended refl) reads;
 }
 
 module _ (held : Held) (loaded : Loaded) (new : Encoded) (found : Table) (made : IsMade held loaded new found) where
   published_is : published loaded.nodes.items new ≡ Some (Ok found)
   published_is = ap (λ (l : List ℕ). Some (reading_of new.docket.items (take new.place l ++ new.bytes.items))) (sym made.nodes) ∙ ap (λ (r : Result Table RecordFault). Some r) made.is.reads
 
-  same_id : held.docket.id ≡ (docket_of loaded.docket.items).id
+  same_id : held.docket.id ≡ (docket_of loaded.shown.items).id
   same_id = ap (λ (c : Contents). c.id) made.docket
 
-  same_used : held.docket.used ≡ (docket_of loaded.docket.items).used
+  same_used : held.docket.used ≡ (docket_of loaded.shown.items).used
   same_used = ap (λ (c : Contents). c.used) made.docket
 
   -- a place behind nodes is one of an append
@@ -83,7 +83,7 @@ module _ (held : Held) (loaded : Loaded) (new : Encoded) (found : Table) (made :
   is_append = append_by (plan_of held) refl made.is.by
 
   nodes_by : (s : Scene) → (plan_of held ≡ a_way.Append → HasUsed loaded s) → 0 < new.place → HasNodes loaded s
-  nodes_by s has some = has (is_append some) (is_behind loaded.docket.items loaded.nodes.items new made.over some).some
+  nodes_by s has some = has (is_append some) (is_behind loaded.shown.items loaded.nodes.items new made.over some).some
 
   base_by : (s : Scene) → IsGround (plan_of held) loaded s → IsBase loaded new s
   base_by s ground = record {
@@ -96,7 +96,7 @@ module _ (held : Held) (loaded : Loaded) (new : Encoded) (found : Table) (made :
   -- an append has a place behind nodes
   place_some : IsAppended held new → 0 < new.place
   place_some is = elim made.over.by [
-    | inl anew ↦ absurd (next_other (docket_of loaded.docket.items).id new.id anew.next (sym same_id ∙ is.same))
+    | inl anew ↦ absurd (next_other (docket_of loaded.shown.items).id new.id anew.next (sym same_id ∙ is.same))
     | inr behind ↦ omega (arith, behind.place, behind.some)
   ]
 
@@ -127,7 +127,7 @@ module _ (held : Held) (loaded : Loaded) (new : Encoded) (found : Table) (made :
       }
 
   pub recorded_over : (a z : Course) → (plan_of held ≡ a_way.Append → HasUsed loaded (last_scene a)) → ((0 < new.place → HasNodes loaded (last_scene a)) → Records z (published loaded.nodes.items new)) → HoldsExactly new a z
-      → (((docket_of loaded.docket.items).id ≡ [] → ⊥) → ((docket_of loaded.docket.items).id ≡ new.id → ⊥) → (last_scene z).files (data_name (docket_of loaded.docket.items).id) ≡ None) → IsRecorded held a z
+      → (((docket_of loaded.shown.items).id ≡ [] → ⊥) → ((docket_of loaded.shown.items).id ≡ new.id → ⊥) → (last_scene z).files (data_name (docket_of loaded.shown.items).id) ≡ None) → IsRecorded held a z
   recorded_over a z has records exact gone = record {
     encoded = new;
     found = found;
@@ -136,26 +136,26 @@ module _ (held : Held) (loaded : Loaded) (new : Encoded) (found : Table) (made :
     exact = exact;
     gone = λ way some. subst (λ (id : List ℕ). (last_scene z).files (data_name id) ≡ None) (sym same_id) (gone (λ empty. some (same_id ∙ empty)) (other way made.is.by));
   } where
-    other : plan_of held ≡ a_way.Rewrite → IsEncodedBy (plan_of held) held new → (docket_of loaded.docket.items).id ≡ new.id → ⊥
-    other way is = next_other (docket_of loaded.docket.items).id new.id (ap next_name (sym same_id) ∙ (subst (λ (w : Way). IsEncodedBy w held new) way is).next)
+    other : plan_of held ≡ a_way.Rewrite → IsEncodedBy (plan_of held) held new → (docket_of loaded.shown.items).id ≡ new.id → ⊥
+    other way is = next_other (docket_of loaded.shown.items).id new.id (ap next_name (sym same_id) ∙ (subst (λ (w : Way). IsEncodedBy w held new) way is).next)
 
   -- ---- where the lists lie
 
   module _ (image : IsOverImage held) (appended : IsAppended held new) where
-    behind : IsBehind loaded.docket.items loaded.nodes.items new
-    behind = is_behind loaded.docket.items loaded.nodes.items new made.over (place_some appended)
+    behind : IsBehind loaded.shown.items loaded.nodes.items new
+    behind = is_behind loaded.shown.items loaded.nodes.items new made.over (place_some appended)
 
     module _ (s : Scene) (f : Files) (exact : IsExact new s.files f) (front : HasNodes loaded s) where
-      docket_is : docket_of (docket_in f) ≡ docket_of new.docket.items
+      docket_is : docket_of (shown_in f) ≡ docket_of new.docket.items
       docket_is =
-          let begins = exact_docket loaded.docket.items loaded.nodes.items new made.over s.files f exact in
+          let begins = exact_docket loaded.shown.items loaded.nodes.items new made.over s.files f exact in
           ap (λ (file : Option (List ℕ)). docket_of (take 512 (content file))) begins.1
           ∙ ap docket_of (cut_docket new.docket.items begins.0 made.over.few)
-          ∙ (followed new.docket.items (take (512 - length new.docket.items) begins.0) made.over.whole (some_docket loaded.docket.items loaded.nodes.items new made.over)).same
+          ∙ (followed new.docket.items (take (512 - length new.docket.items) begins.0) made.over.whole (some_docket loaded.shown.items loaded.nodes.items new made.over)).same
 
-      file_is : (rest : List ℕ) × (content (named_file (docket_in f) f) ≡ (file_with held new) ++ rest)
+      file_is : (rest : List ℕ) × (content (nodes_in f) ≡ (file_with held new) ++ rest)
       file_is =
-          let begins = begins_at loaded.nodes.items new.bytes.items new.place (s.files (data_name new.id)) (long_nodes loaded.docket.items loaded.nodes.items new made.over) (has_place loaded new made.over s (λ some. front)) in
+          let begins = begins_at loaded.nodes.items new.bytes.items new.place (s.files (data_name new.id)) (long_nodes loaded.shown.items loaded.nodes.items new made.over) (has_place loaded new made.over s (λ some. front)) in
           let whole : take new.place loaded.nodes.items ≡ held.bytes = take_all new.place loaded.nodes.items (omega (arith, behind.long, behind.place)) ∙ sym made.nodes in (
             begins.0,
             ap (λ (id : List ℕ). content (f (data_name id))) exact.named
@@ -172,7 +172,7 @@ module _ (held : Held) (loaded : Loaded) (new : Encoded) (found : Table) (made :
           let used : (docket_of new.docket.items).used ≡ new.place + length new.bytes.items = made.over.used in
           omega (arith, all, same, place, used)
 
-      rows_are : rows_of (docket_of new.docket.items) (content (named_file (docket_in f) f)) ≡ rows_of (docket_of new.docket.items) (file_with held new)
+      rows_are : rows_of (docket_of new.docket.items) (content (nodes_in f)) ≡ rows_of (docket_of new.docket.items) (file_with held new)
       rows_are =
           let c : Contents = docket_of new.docket.items in
           let whole : take c.used (file_with held new) ≡ file_with held new = take_all c.used (file_with held new) (omega (arith, used_is)) in
@@ -183,7 +183,7 @@ module _ (held : Held) (loaded : Loaded) (new : Encoded) (found : Table) (made :
       lists_at stays = record {
         same = exact.named ∙ sym appended.same;
         lists = λ dir lent.
-            ap (λ (c : Contents). list_place c (rows_of c (content (named_file (docket_in f) f))) dir) docket_is
+            ap (λ (c : Contents). list_place c (rows_of c (content (nodes_in f))) dir) docket_is
             ∙ ap (λ (rows : List Row). list_place (docket_of new.docket.items) rows dir) rows_are
             ∙ stays dir lent;
       }

@@ -15,7 +15,7 @@ use Rattle.hg_save.specs.declared.loaded.Loaded.{Loaded}
 
 -- the data file that reads show begins with the loaded nodes
 abbrev pub HasNodes : Loaded → Scene → Type 0
-HasNodes loaded s = IsFrontOf (named_file loaded.docket.items s.files) (docket_of loaded.docket.items).used loaded.nodes.items
+HasNodes loaded s = IsFrontOf (named_file loaded.shown.items s.files) (docket_of loaded.shown.items).used loaded.nodes.items
 
 -- of what a crash may leave, each docket that names the standing identifier uses no more bytes of the data file than the docket that stands, and has
 -- that file with as many bytes as it uses
@@ -34,7 +34,7 @@ pub record IsFree (new : Encoded) (s : Scene) : Type 0 where
 -- what a table is published upon: the loaded docket stands, no docket that a crash may leave is ahead of it, what is written is free, and where it is written
 -- behind loaded nodes, the data file begins with these
 pub record IsBase (loaded : Loaded) (new : Encoded) (s : Scene) : Type 0 where
-  pub stands : Stands loaded.docket.items s
+  pub stands : Stands loaded.shown.items s
   pub latest : IsLatest s
   pub free : IsFree new s
   pub nodes : 0 < new.place → HasNodes loaded s

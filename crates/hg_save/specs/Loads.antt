@@ -7,7 +7,7 @@ use Rattle.hg_entry.specs.Table.{Table}
 use Rattle.hg_image.specs.Reading.{RecordFault, data_reading, reading_of}
 use Rattle.hg_image.specs.Reading as a_record_fault
 use Rattle.hg_shelf.specs.History.{Files, History}
-use Rattle.hg_save.specs.Record.{data_in, data_name, docket_in, id_in, named_reading, record_in}
+use Rattle.hg_save.specs.Record.{data_in, docket_in, data_name, shown_in, id_in, named_reading, record_in}
 use Rattle.hg_save.specs.declared.load_fault.LoadFault.{LoadFault}
 use Rattle.hg_save.specs.declared.load_fault.LoadFault.TheVariants as a_fault
 use Rattle.hg_save.specs.declared.loaded.Loaded.{Loaded}
@@ -46,10 +46,11 @@ found_by h tried = record_in (files_at h tried.docket) (files_at h tried.file)
 abbrev pub id_by : History → Try → List ℕ
 id_by h tried = id_in (files_at h tried.docket)
 
--- what was read: the bytes of the docket, and of the data file as many as lead to what the whole file does
+-- what was read: the bytes of the docket, which it shows, and of the data file as many as lead to what the whole file does
 pub record IsLoad (bytes : List ℕ) (found : Option (Result Table RecordFault)) (loaded : Loaded) : Type 0 where
   pub docket : loaded.docket.items ≡ bytes
-  pub reading : found ≡ Some (reading_of loaded.docket.items loaded.nodes.items)
+  pub shown : loaded.shown.items ≡ bytes
+  pub reading : found ≡ Some (reading_of loaded.shown.items loaded.nodes.items)
 
 -- what a load answers where its last try read this docket and found this, and the dockets of its tries name these identifiers; want of
 -- memory and a failing shelf say nothing of the files
@@ -98,7 +99,7 @@ pub record Tries (old new : History) (tries : List Try) : Type 0 where
 pub record Loads (old new : History) (tries : List Try) (result : Result Loaded LoadFault) : Type 0 where
   pub tried : Tries old new tries
   pub answer : Answers result (docket_in (files_at new tried.last.docket)) (map (id_by new) tries) (found_by new tried.last)
-  pub nodes : IfOk result (λ loaded. ReadsAsOf new tried.last.file (docket_of (docket_in (files_at new tried.last.docket))) loaded.nodes.items)
+  pub nodes : IfOk result (λ loaded. ReadsAsOf new tried.last.file (docket_of (shown_in (files_at new tried.last.docket))) loaded.nodes.items)
 
 -- ---- the steps of one try
 

@@ -6,7 +6,7 @@ use Rattle.hg_image.specs.Reading.{RecordFault}
 use Rattle.hg_shelf.specs.History.{Files, History, Who, others}
 use Rattle.hg_shelf.specs.Images.{Course, Scene, scene}
 use Rattle.hg_save.specs.Loads.{During, files_at}
-use Rattle.hg_save.specs.Record.{IsReadable, data_in, data_name, docket_in, reading}
+use Rattle.hg_save.specs.Record.{IsReadable, data_in, data_name, shown_in, reading}
 use Rattle.hg_save.specs.Saved.{IsLatest, name_after}
 use Rattle.hg_save.specs.declared.loaded.Loaded.{Loaded}
 
@@ -18,6 +18,10 @@ pub record UsesData (docket : List ℕ) : Type 0 where
 -- the file that a docket names as its data file
 abbrev pub named_file : List ℕ → Files → Option (List ℕ)
 named_file docket files = files (data_name (docket_of docket).id)
+
+-- the file with the nodes that the files show
+abbrev pub nodes_in : Files → Option (List ℕ)
+nodes_in files = named_file (shown_in files) files
 
 -- a file is there, with at least so many bytes
 abbrev pub HasFront : ℕ → Option (List ℕ) → Type 0
@@ -34,16 +38,16 @@ KeepsFront used (Some old) (Some now) = (used ≤ length old) × (used ≤ lengt
 -- or keeps the bytes that the docket uses
 pub record KeepData (h : History) (from : ℕ) : Type 0 where
   pub told : IsTrue h.told
-  pub there : (k : ℕ) → from ≤ k → k ≤ h.last → UsesData (docket_in (files_at h k))
-      → HasFront (docket_of (docket_in (files_at h k))).used (named_file (docket_in (files_at h k)) (files_at h k))
-  pub kept : (k m : ℕ) → from ≤ k → k ≤ m → m ≤ h.last → UsesData (docket_in (files_at h k))
-      → KeepsFront (docket_of (docket_in (files_at h k))).used (named_file (docket_in (files_at h k)) (files_at h k)) (named_file (docket_in (files_at h k)) (files_at h m))
+  pub there : (k : ℕ) → from ≤ k → k ≤ h.last → UsesData (shown_in (files_at h k))
+      → HasFront (docket_of (shown_in (files_at h k))).used (nodes_in (files_at h k))
+  pub kept : (k m : ℕ) → from ≤ k → k ≤ m → m ≤ h.last → UsesData (shown_in (files_at h k))
+      → KeepsFront (docket_of (shown_in (files_at h k))).used (nodes_in (files_at h k)) (named_file (shown_in (files_at h k)) (files_at h m))
 
 -- ---- the same, said of single steps
 
 -- the data file that the standing docket names is there
 abbrev pub HasData : Files → Type 0
-HasData files = UsesData (docket_in files) → HasFront (docket_of (docket_in files)).used (named_file (docket_in files) files)
+HasData files = UsesData (shown_in files) → HasFront (docket_of (shown_in files)).used (nodes_in files)
 
 -- so many bytes at the front of a file stay as long as it is there, where it has so many; an absent one stays away
 abbrev pub StaysFront : ℕ → Option (List ℕ) → Option (List ℕ) → Type 0
@@ -57,8 +61,8 @@ IsNotAhead of id = (n : ℕ) → name_after n of ≡ Some id → ⊥
 
 -- a step keeps the data of the dockets that have stood since a moment
 pub record KeepsStood (h : History) (from k : ℕ) : Type 0 where
-  pub kept : (j : ℕ) → from ≤ j → j ≤ k → UsesData (docket_in (files_at h j))
-      → StaysFront (docket_of (docket_in (files_at h j))).used (named_file (docket_in (files_at h j)) (files_at h k)) (named_file (docket_in (files_at h j)) (files_at h (k + 1)))
+  pub kept : (j : ℕ) → from ≤ j → j ≤ k → UsesData (shown_in (files_at h j))
+      → StaysFront (docket_of (shown_in (files_at h j))).used (named_file (shown_in (files_at h j)) (files_at h k)) (named_file (shown_in (files_at h j)) (files_at h (k + 1)))
   pub there : HasData (files_at h k) → HasData (files_at h (k + 1))
 
 -- ---- what was recorded
@@ -78,19 +82,19 @@ IsFrontOf (Some bytes) used nodes = nodes ≡ take used bytes
 pub record WasLoaded (old new : History) (loaded : Loaded) : Type 0 where
   pub at : ℕ
   pub during : During old new at
-  pub docket : docket_in (files_at new at) ≡ loaded.docket.items
-  pub nodes : IsFrontOf (data_in (docket_of loaded.docket.items) (files_at new at)) (docket_of loaded.docket.items).used loaded.nodes.items
+  pub docket : shown_in (files_at new at) ≡ loaded.shown.items
+  pub nodes : IsFrontOf (data_in (docket_of loaded.shown.items) (files_at new at)) (docket_of loaded.shown.items).used loaded.nodes.items
 
 -- ---- what others publish
 
 -- files have the docket that others have, and record what these do
 pub record RecordsAs (old new : Files) : Type 0 where
-  pub docket : docket_in new ≡ docket_in old
+  pub docket : shown_in new ≡ shown_in old
   pub read : reading new ≡ reading old
 
 -- another docket came to stand
 abbrev pub IsPublication : Scene → Scene → Type 0
-IsPublication before behind = docket_in behind.files ≡ docket_in before.files → ⊥
+IsPublication before behind = shown_in behind.files ≡ shown_in before.files → ⊥
 
 -- a step keeps to how a record is published: whatever a crash leaves behind it has the docket and the record that it might have left before or,
 -- where another docket came to stand, those that reads show then; these are sound, and no docket that a crash might leave is ahead of that one

@@ -19,8 +19,8 @@ use Rattle.hg_mixed.specs.Shown.{AreLentWhole, ArePlacesOfImage, list_place}
 use Rattle.hg_save.specs.declared.publish_fault.PublishFault.{PublishFault}
 use Rattle.hg_save.specs.declared.publish_fault.PublishFault.TheVariants as a_fault
 use Rattle.hg_save.specs.Leads.{Leads}
-use Rattle.hg_save.specs.Others.{HasData, KeepsRecords, named_file}
-use Rattle.hg_save.specs.Record.{IsReadable, data_name, docket_in, id_in}
+use Rattle.hg_save.specs.Others.{HasData, KeepsRecords, nodes_in}
+use Rattle.hg_save.specs.Record.{IsReadable, data_name, shown_in, id_in}
 use Rattle.hg_save.specs.Saved.{HoldsExactly, IsLatest, IsUnnamed, KeepsOthers, LeavesOnly, NamesExactly, Records, ShowsOnly, Stands, WritesOnly, published}
 use Rattle.hg_save.specs.declared.loaded.Loaded.{Loaded}
 use Rattle.hg_save.specs.Behind.{HasNodes, IsBase, IsFree, IsFreeIn, IsSolid, KeepsUsed, KeepsUsedBytes, LeavesData}
@@ -32,12 +32,12 @@ use Rattle.hg_shelf.specs.Rules.{content}
 
 -- where the loaded docket uses bytes, the data file that reads show begins with the loaded nodes
 abbrev pub HasUsed : Loaded → Scene → Type 0
-HasUsed loaded s = 0 < (docket_of loaded.docket.items).used → HasNodes loaded s
+HasUsed loaded s = 0 < (docket_of loaded.shown.items).used → HasNodes loaded s
 
 -- the moment over which a table is published by a way: the loaded docket stands, and what a crash may leave names no later identifier; and where it goes behind
 -- the data file, that begins with the nodes that the docket uses, and what a crash may leave is solid
 pub record IsGround (way : Way) (loaded : Loaded) (s : Scene) : Type 0 where
-  pub stands : Stands loaded.docket.items s
+  pub stands : Stands loaded.shown.items s
   pub latest : IsLatest s
   pub nodes : way ≡ a_way.Append → HasUsed loaded s
   pub solid : way ≡ a_way.Append → IsSolid s
@@ -75,13 +75,13 @@ pub record IsPut (loaded : Loaded) (new : Encoded) (old now : Course) : Type 0 w
   pub shown : IsFreeIn new (last_scene old).files → (0 < new.place → HasNodes loaded (last_scene old)) → ShowsOnly old now (published loaded.nodes.items new)
   pub torn : Leads (WritesOnly new (last_scene old).files) old now
   pub named : IsUnnamed new.id (last_scene old) → NamesExactly new old now
-  pub anew : new.place ≡ 0 → Leads (KeepsOthers (docket_of loaded.docket.items).id new.id) old now
+  pub anew : new.place ≡ 0 → Leads (KeepsOthers (docket_of loaded.shown.items).id new.id) old now
   pub behind : 0 < new.place → Leads (KeepsUsedBytes new.id new.place) old now
-  pub latest : Stands loaded.docket.items (last_scene old) → IsLatest (last_scene old) → IsLatest (last_scene now)
+  pub latest : Stands loaded.shown.items (last_scene old) → IsLatest (last_scene old) → IsLatest (last_scene now)
   pub intact : (id : List ℕ) → ((c : Files) → (last_scene old).leaves c → id_in c ≡ id → HasData c) → LeavesData id old now
   pub solid : IsFree new (last_scene old) → IsSolid (last_scene old) → IsSolid (last_scene now)
   pub orderly : IsBase loaded new (last_scene old) → IsReadable (published loaded.nodes.items new) → KeepsRecords us now old.history.last
-  pub keeping : Stands loaded.docket.items (last_scene old) → (0 < new.place → HasNodes loaded (last_scene old)) → KeepsUsed us now.history old.history.last
+  pub keeping : Stands loaded.shown.items (last_scene old) → (0 < new.place → HasNodes loaded (last_scene old)) → KeepsUsed us now.history old.history.last
 
 -- a table was put over the record that was loaded, wholly or in part: at each moment reads show that record or the table, and a crash leaves what it might
 -- have left or the table; what is written is written at its place and past the old end; what a crash may leave of the docket that stood or of the new one has
@@ -92,15 +92,15 @@ pub record IsPutOver (held : Held) (loaded : Loaded) (old new : Course) : Type 0
   pub found : Table
   pub is : IsEncoded held encoded found
   pub crash : IsGround (plan_of held) loaded (last_scene old) → LeavesOnly old new (Some (Ok found))
-  pub shown : Stands loaded.docket.items (last_scene old) → (plan_of held ≡ a_way.Rewrite → IsLatest (last_scene old)) → (plan_of held ≡ a_way.Append → HasUsed loaded (last_scene old))
+  pub shown : Stands loaded.shown.items (last_scene old) → (plan_of held ≡ a_way.Rewrite → IsLatest (last_scene old)) → (plan_of held ≡ a_way.Append → HasUsed loaded (last_scene old))
       → ShowsOnly old new (Some (Ok found))
   pub torn : Leads (WritesOnly encoded (last_scene old).files) old new
-  pub latest : Stands loaded.docket.items (last_scene old) → IsLatest (last_scene old) → IsLatest (last_scene new)
-  pub intact : Stands loaded.docket.items (last_scene old) → IsLatest (last_scene old) → IsSolid (last_scene old) → LeavesData held.docket.id old new
-  pub intact_new : Stands loaded.docket.items (last_scene old) → IsLatest (last_scene old) → IsSolid (last_scene old) → LeavesData encoded.id old new
-  pub solid : Stands loaded.docket.items (last_scene old) → IsLatest (last_scene old) → IsSolid (last_scene old) → IsSolid (last_scene new)
+  pub latest : Stands loaded.shown.items (last_scene old) → IsLatest (last_scene old) → IsLatest (last_scene new)
+  pub intact : Stands loaded.shown.items (last_scene old) → IsLatest (last_scene old) → IsSolid (last_scene old) → LeavesData held.docket.id old new
+  pub intact_new : Stands loaded.shown.items (last_scene old) → IsLatest (last_scene old) → IsSolid (last_scene old) → LeavesData encoded.id old new
+  pub solid : Stands loaded.shown.items (last_scene old) → IsLatest (last_scene old) → IsSolid (last_scene old) → IsSolid (last_scene new)
   pub orderly : IsGround (plan_of held) loaded (last_scene old) → KeepsRecords us new old.history.last
-  pub keeping : Stands loaded.docket.items (last_scene old) → (plan_of held ≡ a_way.Append → HasUsed loaded (last_scene old)) → KeepsUsed us new.history old.history.last
+  pub keeping : Stands loaded.shown.items (last_scene old) → (plan_of held ≡ a_way.Append → HasUsed loaded (last_scene old)) → KeepsUsed us new.history old.history.last
   pub others : KeepsOthersBy (plan_of held) held old new
 
 -- this is so, unless the table couldn't be encoded
@@ -123,7 +123,7 @@ pub record IsRecorded (held : Held) (old new : Course) : Type 0 where
 pub record KeepsLists (held : Held) (files : Files) : Type 0 where
   pub same : id_in files ≡ held.docket.id
   pub lists : (dir : Option (List ℕ)) → is_lent held dir ≡ true
-      → list_place (docket_of (docket_in files)) (rows_of (docket_of (docket_in files)) (content (named_file (docket_in files) files))) dir ≡ list_place held.docket (rows_of held.docket held.bytes) dir
+      → list_place (docket_of (shown_in files)) (rows_of (docket_of (shown_in files)) (content (nodes_in files))) dir ≡ list_place held.docket (rows_of held.docket held.bytes) dir
 
 -- reads show such files, and so does whatever a crash leaves
 pub record LeavesLists (held : Held) (new : Course) : Type 0 where

@@ -8,9 +8,13 @@ use Rattle.hg_image.specs.Reading.{RecordFault, reading_of}
 use Rattle.hg_shelf.specs.History.{Files}
 use Rattle.hg_shelf.specs.Rules.{content}
 
--- a docket is read by one read of 512 bytes
+-- what stands as the dirstate: its first 512 bytes, which one read takes
 abbrev pub docket_in : Files → List ℕ
 docket_in files = take 512 (content (files (codes "dirstate")))
+
+-- the docket that the files show: what stands there
+abbrev pub shown_in : Files → List ℕ
+shown_in files = docket_in files
 
 -- the name of the data file with this identifier
 abbrev pub data_name : List ℕ → List ℕ
@@ -31,7 +35,7 @@ named_reading bytes files = option_map (reading_of bytes) (needed_in (docket_ref
 
 -- the reading of the docket in the files at one moment, and of its data file in those at a later one
 abbrev pub record_in : Files → Files → Option (Result Table RecordFault)
-record_in first second = named_reading (docket_in first) second
+record_in first second = named_reading (shown_in first) second
 
 -- what the files of one moment record
 abbrev pub reading : Files → Option (Result Table RecordFault)
@@ -43,4 +47,4 @@ IsReadable recorded = (t : Table) × (recorded ≡ Some (Ok t))
 
 -- the identifier that the docket names
 abbrev pub id_in : Files → List ℕ
-id_in files = (docket_of (docket_in files)).id
+id_in files = (docket_of (shown_in files)).id

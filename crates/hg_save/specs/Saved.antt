@@ -9,7 +9,7 @@ use Rattle.hg_image.specs.Reading.{RecordFault, reading_of}
 use Rattle.hg_shelf.specs.History.{Files}
 use Rattle.hg_shelf.specs.Images.{Course, Scene, last_scene, scene}
 use Rattle.hg_shelf.specs.Rules.{TornFile, content, overwritten}
-use Rattle.hg_save.specs.Record.{data_name, docket_in, id_in, reading}
+use Rattle.hg_save.specs.Record.{data_name, shown_in, id_in, reading}
 
 -- the docket is written under this name first
 abbrev pub new_docket : List ℕ
@@ -51,7 +51,7 @@ name_after (suc n) id = option_and_then (name_after n) (next_name id)
 
 -- the bytes of its data file that the docket uses
 abbrev pub used_in : Files → ℕ
-used_in files = (docket_of (docket_in files)).used
+used_in files = (docket_of (shown_in files)).used
 
 -- no docket that a crash may leave names an identifier that comes after that of the docket that stands, nor that one with more used bytes
 pub record IsLatest (s : Scene) : Type 0 where
@@ -60,7 +60,7 @@ pub record IsLatest (s : Scene) : Type 0 where
 
 -- the docket that stands is this one
 abbrev pub Stands : List ℕ → Scene → Type 0
-Stands docket s = docket_in s.files ≡ docket
+Stands docket s = shown_in s.files ≡ docket
 
 -- files record what a crash might have left at the start, or this
 abbrev pub ReadsAsBeforeOr : Scene → Option (Result Table RecordFault) → Files → Type 0

@@ -10,7 +10,7 @@ ghost use Rattle.hg_image.specs.Reading.{RecordFault, reading_of};
 ghost use Rattle.hg_mixed.specs.Held.{Held, table};
 ghost use Rattle.hg_save.specs.Loads.{IsTry, Loads, Tries, Try, files_at, found_by};
 ghost use Rattle.hg_save.specs.Others.{HasData, IsFrontOf, KeepData, KeepsStood, UsesData, WasLoaded, WasRecorded, named_file};
-ghost use Rattle.hg_save.specs.Record.{docket_in};
+ghost use Rattle.hg_save.specs.Record.{shown_in};
 ghost use Rattle.hg_save.specs.Saved.{IsOver};
 ghost use Rattle.hg_save.specs.declared.loaded.Loaded.{Loaded};
 ghost use Rattle.hg_shelf.specs.History.{Extends, Files, History, Who};
@@ -30,7 +30,7 @@ pub fn encoded_over()
 /// Where others keep the data that dockets name, a load found the record of one moment.
 pub fn one_moment()
     ensures found { (old new : History) (tries : List Try) (loaded : Loaded) → KeepData new old.last → Loads old new tries (Ok loaded)
-        → WasRecorded old new (reading_of loaded.docket.items loaded.nodes.items) }
+        → WasRecorded old new (reading_of loaded.shown.items loaded.nodes.items) }
     // So did each try that found a record, and the last of several.
     ensures tried { (old new : History) (tried : Try) (recorded : Result Table RecordFault) → KeepData new old.last → IsTry old new tried
         → found_by new tried ≡ Some recorded → WasRecorded old new recorded }
@@ -38,7 +38,7 @@ pub fn one_moment()
         → (t : Tries old new tries) → found_by new t.last ≡ Some recorded → WasRecorded old new recorded }
     // The bytes that it loaded stood so at one moment, too.
     ensures bytes { (old new : History) (tries : List Try) (loaded : Loaded) → KeepData new old.last → Loads old new tries (Ok loaded)
-        → docket_refusal loaded.docket.items ≡ None → WasLoaded old new loaded }
+        → docket_refusal loaded.shown.items ≡ None → WasLoaded old new loaded }
     // A fault of the docket that it told stood at one moment, whatever others do.
     ensures fault { (old new : History) (tries : List Try) (fault : DocketFault) → Loads old new tries (Err (a_fault.Docket fault))
         → WasRecorded old new (Err (a_record_fault.Docket fault)) }
@@ -53,17 +53,17 @@ pub fn data_kept()
         → ((k : ℕ) → from ≤ k → k < h.last → KeepsStood h from k) → KeepData h from }
     // So does a step of this program where none of these is beyond the one that stands.
     ensures own { (h : History) (from k : ℕ) → IsKeepingUsed (files_at h k) (files_at h (k + 1))
-        → ((j : ℕ) → from ≤ j → j ≤ k → IsNotBeyond (files_at h k) (docket_in (files_at h j))) → KeepsStood h from k }
+        → ((j : ℕ) → from ≤ j → j ≤ k → IsNotBeyond (files_at h k) (shown_in (files_at h j))) → KeepsStood h from k }
 {}
 
 /// Where others keep the data that dockets name, what a load found is all that its docket uses, and it stands at the front of the data file at each
 /// later moment at which the docket stands as it was loaded.
 pub fn nodes_stay()
-    ensures nodes { (old new h : History) (loaded : Loaded) → Extends new h → KeepData h old.last → UsesData loaded.docket.items → WasLoaded old new loaded
-        → (k : ℕ) → new.last ≤ k → k ≤ h.last → docket_in (files_at h k) ≡ loaded.docket.items
-        → IsFrontOf (named_file loaded.docket.items (files_at h k)) (docket_of loaded.docket.items).used loaded.nodes.items }
-    ensures long { (old new h : History) (loaded : Loaded) → Extends new h → KeepData h old.last → UsesData loaded.docket.items → WasLoaded old new loaded
-        → length loaded.nodes.items ≡ (docket_of loaded.docket.items).used }
+    ensures nodes { (old new h : History) (loaded : Loaded) → Extends new h → KeepData h old.last → UsesData loaded.shown.items → WasLoaded old new loaded
+        → (k : ℕ) → new.last ≤ k → k ≤ h.last → shown_in (files_at h k) ≡ loaded.shown.items
+        → IsFrontOf (named_file loaded.shown.items (files_at h k)) (docket_of loaded.shown.items).used loaded.nodes.items }
+    ensures long { (old new h : History) (loaded : Loaded) → Extends new h → KeepData h old.last → UsesData loaded.shown.items → WasLoaded old new loaded
+        → length loaded.nodes.items ≡ (docket_of loaded.shown.items).used }
 {}
 
 /// What a table is encoded as behind its data file can be published over the record that the table was opened from.

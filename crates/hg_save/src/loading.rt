@@ -8,14 +8,14 @@ ghost use Rattle.hg_shelf.specs.Asks.{AsksInOrder};
 ghost use Rattle.hg_shelf.specs.History.{Passes, now};
 ghost use Rattle.hg_shelf.specs.Images.{Goes, course};
 ghost use Rattle.hg_shelf.specs.declared.asked.Asked.TheVariants as an_ask;
-ghost use Rattle.hg_save.specs.Asked.{AsksAsOf, data_asks, docket_ask, file_asks, named_asks};
+ghost use Rattle.hg_save.specs.Asked.{AsksAsOf, AsksByFiles, data_asks, docket_ask, file_asks, named_asks};
 ghost use Rattle.hg_save.specs.Record.{data_name, docket_in};
 ghost use Rattle.hg_save.specs.Loads.{bytes_of, DataFindsDuring, FileFindsDuring, FrontFinds, Loads, NamedFinds, Try};
 ghost use Rattle.hg_save.specs.declared.load_fault.LoadFault.TheVariants as a_fault;
 
 use crate::load_fault::LoadFault;
 use crate::loaded::Loaded;
-use hg_base::Got;
+use hg_base::{Got, OutOfMemory};
 use hg_docket::{DataName, Docket, Ident, Idents};
 use hg_shelf::Shelf;
 use std::alloc::Global;
@@ -64,7 +64,7 @@ fn read_front<S: Shelf>(
     ensures passes { Passes (S.history shelf.old) (S.history shelf.new) }
     ensures kept { Goes (course (S.history shelf.old) (S.images shelf.old)) (course (S.history shelf.new) (S.images shelf.new)) }
     ensures held { S.held shelf.new ≡ S.held shelf.old }
-    ensures asked { IsTrue (S.history shelf.old).told → AsksInOrder (an_ask.Read (data_name id) ∷ []) (S.history shelf.old) (S.history shelf.new) result }
+    ensures asked { IsTrue (S.history shelf.old).told → AsksInOrder (an_ask.Read (data_name id) 0 want ∷ []) (S.history shelf.old) (S.history shelf.new) result }
     ensures found { IsTrue (S.history shelf.old).told
         → FrontFinds id want (bytes_of result) ((now (S.history shelf.new)).files (data_name id)) }
     ensures cause { HasCause (S.faults shelf.old) (S.faults shelf.new) result (λ e. e ≡ a_fault.Failed) }
@@ -93,7 +93,7 @@ fn read_file<S: Shelf>(
     ensures passes { Passes (S.history shelf.old) (S.history shelf.new) }
     ensures kept { Goes (course (S.history shelf.old) (S.images shelf.old)) (course (S.history shelf.new) (S.images shelf.new)) }
     ensures held { S.held shelf.new ≡ S.held shelf.old }
-    ensures asked { IsTrue (S.history shelf.old).told → AsksInOrder (file_asks id) (S.history shelf.old) (S.history shelf.new) result }
+    ensures asked { IsTrue (S.history shelf.old).told → AsksByFiles (file_asks id used) (S.history shelf.old) (S.history shelf.new) result }
     ensures found { IsTrue (S.history shelf.old).told
         → FileFindsDuring (S.history shelf.old) (S.history shelf.new) id used (bytes_of result) }
     ensures cause { HasCause (S.faults shelf.old) (S.faults shelf.new) result (λ e. e ≡ a_fault.Failed) }
@@ -117,7 +117,7 @@ fn read_data<S: Shelf>(
     ensures passes { Passes (S.history shelf.old) (S.history shelf.new) }
     ensures kept { Goes (course (S.history shelf.old) (S.images shelf.old)) (course (S.history shelf.new) (S.images shelf.new)) }
     ensures held { S.held shelf.new ≡ S.held shelf.old }
-    ensures asked { IsTrue (S.history shelf.old).told → AsksInOrder (data_asks (view docket.now)) (S.history shelf.old) (S.history shelf.new) result }
+    ensures asked { IsTrue (S.history shelf.old).told → AsksByFiles (data_asks (view docket.now)) (S.history shelf.old) (S.history shelf.new) result }
     ensures found { IsTrue (S.history shelf.old).told
         → DataFindsDuring (S.history shelf.old) (S.history shelf.new) (view docket.now) (bytes_of result) }
     ensures cause { HasCause (S.faults shelf.old) (S.faults shelf.new) result (λ e. e ≡ a_fault.Failed) }
@@ -133,23 +133,32 @@ fn read_data<S: Shelf>(
     }
 }
 
+fn copy_of(alloc: Global, bytes: &[u8]) -> Result<Vec<u8>, OutOfMemory>
+    ensures { IfOk result (λ copy. copy.items ≡ bytes.now) }
+{
+    let mut copy = Vec::new(alloc);
+    copy.extend_from_slice(bytes)?;
+    Ok(copy)
+}
+
 // Loads by the bytes of a docket.
 fn load_named<S: Shelf>(alloc: Global, shelf: &mut S, bytes: &[u8]) -> Result<Loaded, LoadFault>
     requires { length bytes.now ≤ 512 }
     ensures passes { Passes (S.history shelf.old) (S.history shelf.new) }
     ensures kept { Goes (course (S.history shelf.old) (S.images shelf.old)) (course (S.history shelf.new) (S.images shelf.new)) }
     ensures held { S.held shelf.new ≡ S.held shelf.old }
-    ensures asked { IsTrue (S.history shelf.old).told → AsksInOrder (named_asks bytes.now) (S.history shelf.old) (S.history shelf.new) result }
+    ensures asked { IsTrue (S.history shelf.old).told → AsksByFiles (named_asks bytes.now) (S.history shelf.old) (S.history shelf.new) result }
     ensures found { IsTrue (S.history shelf.old).told → NamedFinds (S.history shelf.old) (S.history shelf.new) bytes.now result }
     ensures cause { HasCause (S.faults shelf.old) (S.faults shelf.new) result (λ e. e ≡ a_fault.Failed) }
     ensures steady { IfErr result (λ e. (e ≡ a_fault.Failed → ⊥) → S.faults shelf.new ≡ S.faults shelf.old) }
 {
     let docket = Docket::read(bytes)?;
     let nodes = read_data(alloc, shelf, &docket)?;
-    let mut kept = Vec::new(alloc);
-    kept.extend_from_slice(bytes)?;
+    let kept = copy_of(alloc, bytes)?;
+    let shown = copy_of(alloc, bytes)?;
     Ok(Loaded {
         docket: kept,
+        shown,
         nodes,
     })
 }

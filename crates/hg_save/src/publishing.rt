@@ -44,7 +44,7 @@ pub fn publish_table<S: Shelf>(
     table: &Mixed<'_>,
 ) -> Result<(), PublishFault>
     requires held { (S.history shelf.old).ours ≡ true }
-    requires docket { table.now.docket ≡ docket_of loaded.now.docket.items }
+    requires docket { table.now.docket ≡ docket_of loaded.now.shown.items }
     requires nodes { table.now.bytes ≡ loaded.now.nodes.items }
     // It is put over the record that stood, wholly or in part, whatever is answered but that it can't be encoded.
     ensures safe { Undisturbed (course (S.history shelf.old) (S.images shelf.old)) (course (S.history shelf.new) (S.images shelf.new))

@@ -77,7 +77,7 @@ fn clear<S: Shelf>(shelf: &mut S, docket: &[u8], next: &[u8]) -> Result<(), Fail
 /// After a crash at any moment the dirstate is as it was before or as it is after, and so it is where a call failed. It takes no memory.
 pub fn publish<S: Shelf>(shelf: &mut S, loaded: &Loaded, new: &Encoded) -> Result<(), Failed>
     requires held { (S.history shelf.old).ours ≡ true }
-    requires over { IsOver loaded.now.docket.items loaded.now.nodes.items new.now }
+    requires over { IsOver loaded.now.shown.items loaded.now.nodes.items new.now }
     // It is published over the record that stood, wholly or in part, whatever is answered.
     ensures safe { Undisturbed (course (S.history shelf.old) (S.images shelf.old)) (course (S.history shelf.new) (S.images shelf.new))
         → IsPut loaded.now new.now (course (S.history shelf.old) (S.images shelf.old)) (course (S.history shelf.new) (S.images shelf.new)) }
@@ -97,9 +97,9 @@ pub fn publish<S: Shelf>(shelf: &mut S, loaded: &Loaded, new: &Encoded) -> Resul
     ensures gone { Undisturbed (course (S.history shelf.old) (S.images shelf.old)) (course (S.history shelf.new) (S.images shelf.new))
         → OnOk
         result
-        (((docket_of loaded.now.docket.items).id ≡ [] → ⊥)
-        → ((docket_of loaded.now.docket.items).id ≡ new.now.id → ⊥)
-        → (last_scene (course (S.history shelf.new) (S.images shelf.new))).files (data_name (docket_of loaded.now.docket.items).id) ≡ None) }
+        (((docket_of loaded.now.shown.items).id ≡ [] → ⊥)
+        → ((docket_of loaded.now.shown.items).id ≡ new.now.id → ⊥)
+        → (last_scene (course (S.history shelf.new) (S.images shelf.new))).files (data_name (docket_of loaded.now.shown.items).id) ≡ None) }
     // Each step meanwhile is its own, or of one who may only read.
     ensures lock { IsTrue (S.history shelf.old).told → IsHeld (S.history shelf.old) (S.history shelf.new) }
     ensures kept { Goes (course (S.history shelf.old) (S.images shelf.old)) (course (S.history shelf.new) (S.images shelf.new)) }
@@ -112,5 +112,5 @@ pub fn publish<S: Shelf>(shelf: &mut S, loaded: &Loaded, new: &Encoded) -> Resul
     put(shelf, name.as_str(), new.place as u64, new.bytes.as_slice())?;
     put(shelf, NEW_DOCKET, 0, new.docket.as_slice())?;
     swap(shelf, NEW_DOCKET, DOCKET)?;
-    clear(shelf, loaded.docket.as_slice(), new.id.as_bytes())
+    clear(shelf, loaded.shown.as_slice(), new.id.as_bytes())
 }

@@ -6,7 +6,7 @@ ghost use Rattle.hg_shelf.specs.Asks.{AsksInOrder};
 ghost use Rattle.hg_shelf.specs.History.{Passes, now};
 ghost use Rattle.hg_shelf.specs.Images.{Goes, course};
 ghost use Rattle.hg_save.specs.Asked.{docket_ask};
-ghost use Rattle.hg_save.specs.Record.{docket_in};
+ghost use Rattle.hg_save.specs.Record.{docket_in, shown_in};
 
 use crate::loaded::Loaded;
 use crate::loading::{MOST, read_docket};
@@ -22,6 +22,8 @@ pub fn still<S: Shelf>(shelf: &mut S, loaded: &Loaded) -> Result<bool, Failed>
     // The bytes are those that reads show at the end.
     ensures found { IsTrue (S.history shelf.old).told
         → IfOk result (λ same. IsTrue same ↔ (docket_in (now (S.history shelf.new)).files ≡ loaded.now.docket.items)) }
+    ensures shown { IsTrue (S.history shelf.old).told
+        → IfOk result (λ same. IsTrue same → shown_in (now (S.history shelf.new)).files ≡ loaded.now.shown.items) }
     ensures cause { HasCause (S.faults shelf.old) (S.faults shelf.new) result (λ e. Unit {0}) }
 {
     let mut buf = [0; MOST];

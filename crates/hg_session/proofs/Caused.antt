@@ -2,6 +2,7 @@
 use Rattle.std.proofs.Common.{ℕ, ◌≡◌, true, false, Option, Some, None, Result, Ok, Err, IfSome, IsTrue, refl, sym, subst, inl, inr, true≢false}
 use Rattle.std.specs.Option.{MatchOption}
 use Rattle.std.specs.Prelude.{IsSomeAnd, ◌⊎◌}
+use Rattle.hg_session.specs.Ends.{EndsChange}
 use Rattle.hg_append.specs.declared.fault.EncodeFault.TheVariants as an_encode_fault
 use Rattle.hg_base.specs.Fault.{Rose}
 use Rattle.hg_entry.specs.Table.{Table}
@@ -42,7 +43,7 @@ use Rattle.hg_session.proofs.Looks.{joined, not_without, status_failed}
 use Rattle.hg_session.proofs.Printing.{never_rose}
 use Rattle.hg_session.proofs.Readings.{first_read, was_loaded}
 use Rattle.hg_session.proofs.Records.{record_by}
-use Rattle.hg_session.proofs.Statuses.{ran_status}
+use Rattle.hg_session.proofs.Statuses.{ran_status, status_calm, status_streams, status_tree}
 use Rattle.hg_shelf.specs.History as shelf
 use Rattle.hg_walk.specs.Notes.{NotesData}
 use Rattle.hg_words.specs.declared.flags.StatusFlags.{StatusFlags}
@@ -245,27 +246,28 @@ own_changed call code fault changed a_command.DebugDirstate is own by = absurd (
 own_changed call code fault changed a_command.DebugScript is own by = absurd (true≢false (sym is))
 own_changed call code fault changed (a_command.DebugLoad n) is own by = absurd (true≢false (sym is))
 
-pub answered_changed : (call : Call) (code : ℕ) (fault : Option Fault) → is_change call.command ≡ true → RanChange call code fault → MatchOption fault ((code ≡ 0) ⊎ (code ≡ 1)) (λ f. code ≡ 255)
+pub answered_changed : (call : Call) (code : ℕ) (fault : Option Fault) → is_change call.command ≡ true → EndsChange call code fault → MatchOption fault ((code ≡ 0) ⊎ (code ≡ 1)) (λ f. code ≡ 255)
     → IsAnswered call code fault
-answered_changed call code fault is changed status = record {
-  ran = ran_changed call code fault changed call.command is;
-  cause = changed_cause call is fault changed.shows;
-  calm = λ none.
-      record { tree = changed.calm_tree none; shelf = changed.calm_shelf none; regexps = changed.uncounted; out = changed.silent.count; err = changed.calm_err none };
-  streams = changed.streams;
-  tree = changed.tree;
-  memory = changed_memory call is fault changed.shows;
-  kept = changed.kept;
-  crash = λ calm keep first ground. (
-    published_in (makes_in call) call.saved fault (changed.safe calm),
-    own_changed call code fault changed call.command is (published_in (makes_in call) call.saved fault (changed.safe calm)) (own_of (makes_in call) call.saved fault (changed.safe calm)),
-    changed.crash calm keep first
-        (firm_for call.saved.old call.saved.new ground (makes_in call) fault (changed.safe calm)
-        (λ k later within none. asks_none call.command call.looked.tree call.looked.shelf call.saved.new.history k)),
-  );
-  latest = λ calm keep first. latest_safe call.saved.old call.saved.new changed.kept calm keep (makes_in call) first fault (changed.safe calm);
-  status = status;
-}
+answered_changed call code fault is ends status =
+    let changed = ends.ran in
+    record {
+      ran = ran_changed call code fault changed call.command is;
+      cause = changed_cause call is fault changed.shows;
+      calm = ends.calm;
+      streams = ends.streams;
+      tree = ends.tree;
+      memory = changed_memory call is fault changed.shows;
+      kept = changed.kept;
+      crash = λ calm keep first ground. (
+        published_in (makes_in call) call.saved fault (changed.safe calm),
+        own_changed call code fault changed call.command is (published_in (makes_in call) call.saved fault (changed.safe calm)) (own_of (makes_in call) call.saved fault (changed.safe calm)),
+        changed.crash calm keep first
+            (firm_for call.saved.old call.saved.new ground (makes_in call) fault (changed.safe calm)
+            (λ k later within none. asks_none call.command call.looked.tree call.looked.shelf call.saved.new.history k)),
+      );
+      latest = λ calm keep first. latest_safe call.saved.old call.saved.new changed.kept calm keep (makes_in call) first fault (changed.safe calm);
+      status = status;
+    }
 
 -- a status, from what it did and what was told behind it
 some_read : (files : Watched shelf.History) (table : Option Table) → IfSome table (IsLoadedFirst files) → IfSome table (IsLoaded files)
@@ -282,9 +284,9 @@ answered_status command flags looked saved locks out mid tail bytes count done c
     subst (λ (c : Command). IsAnswered (at c) code fault) (sym is) (record {
       ran = ran;
       cause = status_cause call flags refl ran.notes ran.table (some_read looked.shelf ran.table ran.loaded) fault ran.looks;
-      calm = ran.calm;
-      streams = ran.streams;
-      tree = ran.tree_failed;
+      calm = status_calm command flags looked saved locks out mid tail bytes count done code fault does ends;
+      streams = status_streams command flags looked saved locks out mid tail bytes count done code fault does ends;
+      tree = status_tree command flags looked saved locks out mid tail bytes count done code fault does ends;
       memory = status_memory call flags refl ran.notes ran.table (some_read looked.shelf ran.table ran.loaded) fault ran.looks;
       kept = ran.saving.kept;
       crash = λ calm keep first ground. (
@@ -295,7 +297,7 @@ answered_status command flags looked saved locks out mid tail bytes count done c
             (noted_upto saved.old saved.new ground looked.shelf same ran.table ran.notes)),
       );
       latest = λ calm keep first. latest_safe saved.old saved.new ran.saving.kept calm keep (noted_in looked.shelf ran.table ran.notes) first fault (ran.saving.safe calm);
-      status = looked_status code fault ran.status;
+      status = looked_status code fault ends.status;
     })
 
 -- the command that prints the record
@@ -331,5 +333,5 @@ answered_unbuilt call code fault is answered told idle passes status =
     let look : IsLook call code fault =
     look_by call code fault (record { passes = passes; kept = idle.kept; held = idle.held }) idle.unwritten (λ none. not_without fault a_fault.NotBuilt answered none)
     (status_failed code a_fault.NotBuilt fault answered status) in
-    answered_looked call code fault (ran_unbuilt call code fault (record { answered = answered; told = told; idle = idle; look = look }) call.command is) look idle.unwritten idle.copy (on_stream fault idle.files_count)
+    answered_looked call code fault (ran_unbuilt call code fault (record { undone = record { answered = answered; told = told; idle = idle; status = status }; look = look }) call.command is) look idle.unwritten idle.copy (on_stream fault idle.files_count)
     (unbuilt_cause call fault answered is)

@@ -1,10 +1,11 @@
 -- A fault of a status: what was met behind the load was met in the call, and where nobody else steps what the first parent has stands there.
-use Rattle.std.proofs.Common.{ℕ, ◌≡◌, ◌<◌, ◌≤◌, Bool, false, cond, List, [], length, take, Option, Some, None, Result, Ok, Err, IsTrue, sym, ap, ◌∙◌, subst, arith, le-ltb}
+use Rattle.std.proofs.Common.{ℕ, ◌≡◌, ◌<◌, ◌≤◌, Bool, false, cond, List, [], length, take, Option, Some, None, Result, Ok, Err, IsTrue, refl, sym, ap, ◌∙◌, subst, arith, le-ltb}
 use Rattle.std.proofs.lemmas.Bool.{lt-ltb}
 use Rattle.std.proofs.Math.Seq.{take-length}
 use Rattle.hg_base.specs.declared.id.Id20.{Id20}
 use Rattle.hg_base.specs.declared.stat.Stat.{Stat}
 use Rattle.hg_compare.specs.Alike.{contents_name, is_alike}
+use Rattle.hg_flat.specs.First.{AreServedBefore, LacksAt, MetFirst}
 use Rattle.hg_flat.specs.Met.{LacksContents, Met, NeedsManifest, Shows, Status, WasRead}
 use Rattle.hg_flat.specs.Parent.{Asking, IsAsked, WasAsked, manifest_at}
 use Rattle.hg_listing.specs.declared.fault.StatusFault.{StatusFault}
@@ -53,19 +54,22 @@ module _ (wanted : Wanted) (asks : Asking) (id : Id20) (old new : tree.History) 
   needs_longer : NeedsManifest part → NeedsManifest whole
   needs_longer needs = record { path = needs.path; asked = needs.asked; committed = needs.committed }
 
-  lacks_longer : (gone : Id20) → LacksContents part gone → LacksContents whole gone
-  lacks_longer gone lacks = record {
-    path = lacks.path;
-    asked = lacks.asked;
-    rows = lacks.rows;
-    read = read_longer (Ok lacks.rows) lacks.read;
-    row = lacks.row;
-    is = lacks.is;
-    names = lacks.names;
-    alike = shows_longer (λ moment. IsAsked asks moment lacks.path × (stat : Stat) × (stat_at moment lacks.path ≡ Some stat) × IsTrue (is_alike lacks.row stat)) lacks.alike;
-    absent = holds_longer (contents_name gone.0) (λ file. file ≡ None) lacks.absent;
-    committed = lacks.committed;
-  }
+  lacks_longer : (gone : Id20) (lacks : LacksContents part gone) → LacksAt whole lacks.path gone
+  lacks_longer gone lacks = (
+    record {
+      path = lacks.path;
+      asked = lacks.asked;
+      rows = lacks.rows;
+      read = read_longer (Ok lacks.rows) lacks.read;
+      row = lacks.row;
+      is = lacks.is;
+      names = lacks.names;
+      alike = shows_longer (λ moment. IsAsked asks moment lacks.path × (stat : Stat) × (stat_at moment lacks.path ≡ Some stat) × IsTrue (is_alike lacks.row stat)) lacks.alike;
+      absent = holds_longer (contents_name gone.0) (λ file. file ≡ None) lacks.absent;
+      committed = lacks.committed;
+    },
+    refl,
+  )
 
   pub met_longer : (fault : StatusFault) → Met part fault → Met whole fault
   met_longer a_fault.OutOfMemory met = tt
@@ -75,13 +79,30 @@ module _ (wanted : Wanted) (asks : Asking) (id : Id20) (old new : tree.History) 
   met_longer (a_fault.ManifestTooLarge size) met = (needs_longer met.0, met.1, holds_longer (plain_name id.0) (λ file. size_of file ≡ Some size) met.2)
   met_longer (a_fault.ManifestLine line) met = (needs_longer met.0, read_longer (Err (a_manifest_fault.ManifestLine line)) met.1)
   met_longer (a_fault.ManifestOrder line) met = (needs_longer met.0, read_longer (Err (a_manifest_fault.ManifestOrder line)) met.1)
-  met_longer (a_fault.NoContents gone) met = lacks_longer gone met
+  met_longer (a_fault.NoContents gone) met = (lacks_longer gone met).0
   met_longer (a_fault.IgnoreTooLarge size) met = met
   met_longer (a_fault.IgnoreText at) met = met
   met_longer (a_fault.BadGlob line) met = met
   met_longer (a_fault.BadRegexp line) met = met
   met_longer (a_fault.RegexpTooBig line) met = met
   met_longer (a_fault.BadInclude line) met = met
+
+  -- so was the first of several contents that were absent
+  pub first_longer : ((path : List ℕ) → AreServedBefore part path → AreServedBefore whole path) → (fault : StatusFault) → MetFirst part fault → MetFirst whole fault
+  first_longer moved a_fault.OutOfMemory met = tt
+  first_longer moved a_fault.TreeFailed met = tt
+  first_longer moved a_fault.ShelfFailed met = tt
+  first_longer moved (a_fault.NoManifest gone) met = tt
+  first_longer moved (a_fault.ManifestTooLarge size) met = tt
+  first_longer moved (a_fault.ManifestLine line) met = tt
+  first_longer moved (a_fault.ManifestOrder line) met = tt
+  first_longer moved (a_fault.NoContents gone) met = let at = lacks_longer gone met.lacks in record { lacks = at.0; before = subst (AreServedBefore whole) (sym at.1) (moved met.lacks.path met.before) }
+  first_longer moved (a_fault.IgnoreTooLarge size) met = tt
+  first_longer moved (a_fault.IgnoreText at) met = tt
+  first_longer moved (a_fault.BadGlob line) met = tt
+  first_longer moved (a_fault.BadRegexp line) met = tt
+  first_longer moved (a_fault.RegexpTooBig line) met = tt
+  first_longer moved (a_fault.BadInclude line) met = tt
 
 -- ---- what a manifest's file says
 

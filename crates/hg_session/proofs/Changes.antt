@@ -19,7 +19,7 @@ use Rattle.hg_ops.specs.declared.refusal.OpFault.TheVariants as an_op
 use Rattle.hg_report.specs.declared.fault.Fault.{Fault}
 use Rattle.hg_save.specs.Loads.{IsLoad, IsTry, Loads, Tries, Try, files_at, found_by}
 use Rattle.hg_save.specs.Others.{IsFrontOf, named_file}
-use Rattle.hg_save.specs.Record.{docket_in, reading}
+use Rattle.hg_save.specs.Record.{docket_in, shown_in, reading}
 use Rattle.hg_save.specs.Saved.{Stands}
 use Rattle.hg_save.specs.declared.load_fault.LoadFault.{LoadFault}
 use Rattle.hg_save.specs.declared.loaded.Loaded.{Loaded}
@@ -27,7 +27,7 @@ use Rattle.hg_save.proofs.Loads.{found_longer, last_within, tries_longer}
 use Rattle.hg_session.specs.Acts.{AsksBehind, ChangesTree, Makes}
 use Rattle.hg_session.specs.Anew.{IsOpened, IsOverwritten, IsRecorded, LoadsOrRefuses, MetWriting, WritesOnly}
 use Rattle.hg_session.specs.Call.{Fails, IsLeftAlone, Watched}
-use Rattle.hg_session.specs.Change.{AsksChange, ChangesBehind, IsDone, IsKept, IsMade, IsPublished, IsReadFirst, IsReadSome, IsSafeHeld, IsToBlame, IsUnwritten, MetChanging, MetUnfit, stood_read, up_to}
+use Rattle.hg_session.specs.Change.{AsksChange, ChangesBehind, IsDone, IsKept, IsMade, IsPublished, IsReadFirst, IsSafeHeld, IsToBlame, IsUnwritten, MetChanging, MetUnfit, stood_read, up_to}
 use Rattle.hg_session.specs.Load.{by_load}
 use Rattle.hg_session.specs.Loaded.{AsksRecord, NodesFind, Refuses}
 use Rattle.hg_session.specs.Kept.{KeepsLent}
@@ -65,15 +65,15 @@ module _ (Does : Makes) (copy : Watched tree.History) (files : Watched shelf.His
   met_read a_read.Failed met failed alone = (failed refl, alone)
 
   -- its nodes could not
-  pub met_opened : {X : Type 0} (IsOf : Table → X → Type 0) (loaded : Loaded) (fault : ReadFault) → docket_refusal loaded.docket.items ≡ None
+  pub met_opened : {X : Type 0} (IsOf : Table → X → Type 0) (loaded : Loaded) (fault : ReadFault) → docket_refusal loaded.shown.items ≡ None
       → (IsTrue files.old.told → (tried : Try) × LoadsOrRefuses files.old files.new (tried ∷ []) (Ok loaded))
-      → NodesFind IsOf (Err fault) (data_reading (docket_of loaded.docket.items) loaded.nodes.items) → IsLeftAlone copy → MetChanging Does copy files (a_change_fault.Read fault)
+      → NodesFind IsOf (Err fault) (data_reading (docket_of loaded.shown.items) loaded.nodes.items) → IsLeftAlone copy → MetChanging Does copy files (a_change_fault.Read fault)
   met_opened IsOf loaded a_read.OutOfMemory sound loads finds alone = (tt, alone)
   met_opened IsOf loaded (a_read.Node fault) sound loads finds alone = (
     λ told.
         let m = loads told in (
           m.0 ∷ [],
-          record { tried = m.1.tried; answer = m.1.answer.reading ∙ ap (λ r. Some r) (sound_reading loaded.docket.items loaded.nodes.items sound ∙ ap (λ r. of_data r) finds) },
+          record { tried = m.1.tried; answer = m.1.answer.reading ∙ ap (λ r. Some r) (sound_reading loaded.shown.items loaded.nodes.items sound ∙ ap (λ r. of_data r) finds) },
         ),
     alone,
   )
@@ -87,18 +87,19 @@ module _ (Does : Makes) (copy : Watched tree.History) (files : Watched shelf.His
 pub record HasLoaded (old new : History) (tries : List Try) (loaded : Loaded) : Type 0 where
   pub tried : Tries old new tries
   pub answer : IsLoad (docket_in (files_at new tried.last.docket)) (found_by new tried.last) loaded
-  pub nodes : (recorded : Table) → docket_refusal loaded.docket.items ≡ None → data_reading (docket_of loaded.docket.items) loaded.nodes.items ≡ Ok recorded → 0 < (docket_of loaded.docket.items).used
-      → IsFrontOf (named_file loaded.docket.items (files_at new tried.last.file)) (docket_of loaded.docket.items).used loaded.nodes.items
+  pub nodes : (recorded : Table) → docket_refusal loaded.shown.items ≡ None → data_reading (docket_of loaded.shown.items) loaded.nodes.items ≡ Ok recorded → 0 < (docket_of loaded.shown.items).used
+      → IsFrontOf (named_file loaded.shown.items (files_at new tried.last.file)) (docket_of loaded.shown.items).used loaded.nodes.items
 
 loaded_longer : (old mid new : History) (tries : List Try) (loaded : Loaded) → Extends mid new → Loads old mid tries (Ok loaded) → HasLoaded old new tries loaded
 loaded_longer old mid new tries loaded past loads = record {
   tried = tries_longer old mid new tries past loads.tried;
   answer = record {
     docket = loads.answer.docket ∙ ap docket_in (sym (past.stay loads.tried.last.docket (last_within old mid tries loads.tried).docket.to).shown);
+    shown = loads.answer.shown ∙ ap shown_in (sym (past.stay loads.tried.last.docket (last_within old mid tries loads.tried).docket.to).shown);
     reading = found_longer old mid new tries past loads.tried ∙ loads.answer.reading;
   };
   nodes = λ recorded sound nodes uses.
-      subst (λ (f : Files). IsFrontOf (named_file loaded.docket.items f) (docket_of loaded.docket.items).used loaded.nodes.items)
+      subst (λ (f : Files). IsFrontOf (named_file loaded.shown.items f) (docket_of loaded.shown.items).used loaded.nodes.items)
       (sym (past.stay loads.tried.last.file (last_within old mid tries loads.tried).file.to).shown) (nodes_by old mid tries loaded recorded loads sound nodes uses);
 }
 
@@ -108,14 +109,14 @@ pub loads_upto : (old mid new : History) (loaded : Loaded) → Extends mid new �
 loads_upto old mid new loaded past loads told = let l = loads told in (l.0, loaded_longer old mid new (l.0 ∷ []) loaded past l.1)
 
 -- the shelf before the load, behind it and at the end; what was loaded, the table that it records, and the one that was made of it
-module _ (a b c : Course) (passes : Passes a.history b.history) (goes : Goes b c) (loaded : Loaded) (sound : docket_refusal loaded.docket.items ≡ None)
+module _ (a b c : Course) (passes : Passes a.history b.history) (goes : Goes b c) (loaded : Loaded) (sound : docket_refusal loaded.shown.items ≡ None)
     (loads : IsTrue a.history.told → (tried : Try) × HasLoaded a.history b.history (tried ∷ []) loaded)
-    (recorded : Table) (nodes : data_reading (docket_of loaded.docket.items) loaded.nodes.items ≡ Ok recorded) where
+    (recorded : Table) (nodes : data_reading (docket_of loaded.shown.items) loaded.nodes.items ≡ Ok recorded) where
   abbrev tried_within : (told : IsTrue a.history.told) → IsTry a.history b.history (loads told).1.tried.last
   tried_within told = last_within a.history b.history ((loads told).0 ∷ []) (loads told).1.tried
 
   pub found_is : (told : IsTrue a.history.told) → found_by b.history (loads told).1.tried.last ≡ Some (Ok recorded)
-  found_is told = (loads told).1.answer.reading ∙ ap (λ r. Some r) (sound_reading loaded.docket.items loaded.nodes.items sound ∙ ap (λ r. of_data r) nodes)
+  found_is told = (loads told).1.answer.reading ∙ ap (λ r. Some r) (sound_reading loaded.shown.items loaded.nodes.items sound ∙ ap (λ r. of_data r) nodes)
 
   abbrev pub read_first : IsTrue a.history.told → IsReadFirst a.history c.history recorded
   read_first told =
@@ -134,22 +135,22 @@ module _ (a b c : Course) (passes : Passes a.history b.history) (goes : Goes b c
       }
 
   -- the docket that was read
-  docket_read : (told : IsTrue a.history.told) → docket_in (files_at c.history (loads told).1.tried.last.docket) ≡ loaded.docket.items
-  docket_read told = ap docket_in (goes.past.stay (loads told).1.tried.last.docket (tried_within told).docket.to).shown ∙ sym (loads told).1.answer.docket
+  docket_read : (told : IsTrue a.history.told) → shown_in (files_at c.history (loads told).1.tried.last.docket) ≡ loaded.shown.items
+  docket_read told = ap shown_in (goes.past.stay (loads told).1.tried.last.docket (tried_within told).docket.to).shown ∙ sym (loads told).1.answer.shown
 
   -- a table in memory that was opened over what was loaded, whatever was changed in it
-  module _ (held : Held) (is : held.docket ≡ docket_of loaded.docket.items) (bytes : held.bytes ≡ loaded.nodes.items) (lends : LendsUnchanged held) where
+  module _ (held : Held) (is : held.docket ≡ docket_of loaded.shown.items) (bytes : held.bytes ≡ loaded.nodes.items) (lends : LendsUnchanged held) where
     pub over_read : (told : IsTrue a.history.told) → IsMadeOver (stood_by c.history (loads told).1.tried.last) (table held) held
     over_read told =
         let tried : Try = (loads told).1.tried.last in
         record {
           docket = is ∙ ap docket_of (sym (docket_read told));
           nodes =
-              subst (λ (f : Files). 0 < held.docket.used → IsFrontOf (named_file (docket_in (files_at c.history tried.docket)) f) held.docket.used held.bytes)
+              subst (λ (f : Files). 0 < held.docket.used → IsFrontOf (named_file (shown_in (files_at c.history tried.docket)) f) held.docket.used held.bytes)
               (sym (goes.past.stay tried.file (tried_within told).file.to).shown)
               (subst (λ (l : List ℕ). 0 < held.docket.used → IsFrontOf (named_file l (files_at b.history tried.file)) held.docket.used held.bytes) (sym (docket_read told))
-              (subst (λ (l : List ℕ). 0 < held.docket.used → IsFrontOf (named_file loaded.docket.items (files_at b.history tried.file)) held.docket.used l) (sym bytes)
-              (subst (λ (d : Contents). 0 < d.used → IsFrontOf (named_file loaded.docket.items (files_at b.history tried.file)) d.used loaded.nodes.items) (sym is)
+              (subst (λ (l : List ℕ). 0 < held.docket.used → IsFrontOf (named_file loaded.shown.items (files_at b.history tried.file)) held.docket.used l) (sym bytes)
+              (subst (λ (d : Contents). 0 < d.used → IsFrontOf (named_file loaded.shown.items (files_at b.history tried.file)) d.used loaded.nodes.items) (sym is)
               ((loads told).1.nodes recorded sound nodes))));
           same = same_table (table held);
           lends = lends;
@@ -174,10 +175,6 @@ module _ (a b c : Course) (passes : Passes a.history b.history) (goes : Goes b c
     record { loaded = recorded; read = read_first; stops = subst (λ (t : Table). Does.stops t fault) (one_table (table opened) recorded begun.same) stops },
     to_blame copy (record { old = a.history; new = c.history; before = before; after = after }) fault tree_failed (λ is. subst (λ (n : ℕ). Rose n after) still (shelf_failed is)),
   )
-
-  -- the working copy was looked at behind it
-  pub read_some : IsReadSome (record { old = a.history; new = c.history; before = 0; after = 0 })
-  read_some = λ told. (recorded, read_first told)
 
   -- what becomes of the working copy behind it
   pub changes_by : (command : Command) (copy : Watched tree.History) (opened : Held) (begun : IsOpened loaded recorded opened) → ChangesTree command (table opened) copy
@@ -205,7 +202,7 @@ module _ (a b c : Course) (passes : Passes a.history b.history) (goes : Goes b c
     unwritten_still : c ≡ b → IsUnwritten a.history c.history
     unwritten_still none = subst (λ (x : Course). IsUnwritten a.history x.history) (sym none) (unwritten a.history b.history passes)
 
-    docket_is : made.docket ≡ docket_of loaded.docket.items
+    docket_is : made.docket ≡ docket_of loaded.shown.items
     docket_is = image.docket ∙ begun.contents
 
     bytes_is : made.bytes ≡ loaded.nodes.items
@@ -251,12 +248,12 @@ module _ (a b c : Course) (passes : Passes a.history b.history) (goes : Goes b c
       there : reading (scene c a.history.last).files ≡ Some (Ok recorded)
       there = sym (front_found a b c ours passes goes calm tried (tried_within calm.told)) ∙ found_is calm.told
 
-      pub stands : Stands loaded.docket.items (last_scene b)
-      stands = front_docket a b c ours passes goes calm tried (tried_within calm.told) ∙ sym (loads calm.told).1.answer.docket
+      pub stands : Stands loaded.shown.items (last_scene b)
+      stands = front_docket a b c ours passes goes calm tried (tried_within calm.told) ∙ sym (loads calm.told).1.answer.shown
 
       pub used_there : HasUsed loaded (last_scene b)
       used_there = λ uses.
-          subst (λ (f : Files). IsFrontOf (named_file loaded.docket.items f) (docket_of loaded.docket.items).used loaded.nodes.items)
+          subst (λ (f : Files). IsFrontOf (named_file loaded.shown.items f) (docket_of loaded.shown.items).used loaded.nodes.items)
           (front_files a b c ours passes goes calm tried.file (tried_within calm.told).file ∙ sym (end_remains a b c ours passes goes calm).shown)
           ((loads calm.told).1.nodes recorded sound nodes uses)
 

@@ -1,11 +1,8 @@
 -- What a command did over a table in memory, from what its words came to.
-use Rattle.std.proofs.Common.{ℕ, ◌≡◌, ◌<◌, ◌⊎◌, Bool, false, List, [], ◌++◌, Option, Result, Ok, Err, Vec, Global, IfErr, IfOk, OnOk, IsTrue, refl, sym, subst, inl, inr, arith}
-use Rattle.hg_append.specs.declared.fault.EncodeFault.{EncodeFault}
-use Rattle.hg_append.specs.declared.fault.EncodeFault.TheVariants as an_encode
+use Rattle.std.proofs.Common.{ℕ, ◌≡◌, ◌<◌, ◌⊎◌, Bool, false, List, [], Option, Result, Ok, Err, Vec, Global, IfErr, IfOk, OnOk, IsTrue, refl, sym, subst, inl, inr, arith}
 use Rattle.hg_base.specs.Fault.{HasCause, Rose}
 use Rattle.hg_base.specs.declared.id.Id20.{Id20}
 use Rattle.hg_entry.specs.Table.{Table}
-use Rattle.hg_manifest.specs.Load.{asks_of}
 use Rattle.hg_mixed.specs.Edits.{IsOfSameImage}
 use Rattle.hg_nodes.specs.Edits.{IsSame}
 use Rattle.hg_mixed.specs.Held.{Held, table}
@@ -16,16 +13,11 @@ use Rattle.hg_ops.specs.declared.copy_refusal.CopyRefusal.{CopyRefusal}
 use Rattle.hg_ops.specs.declared.refusal.OpFault.{OpFault}
 use Rattle.hg_ops.specs.declared.refusal.OpFault.TheVariants as an_op
 use Rattle.hg_ops.proofs.Added.{same_table}
-use Rattle.hg_report.specs.Cause.{of_encode, of_op}
-use Rattle.hg_session.specs.Anew.{MetWriting}
-use Rattle.hg_session.specs.Change.{IsEarly, of_change}
-use Rattle.hg_session.specs.declared.change_fault.ChangeFault.{ChangeFault}
 use Rattle.hg_session.specs.Acts.{ActsOn, IsActed, IsCopied, IsNothingMade, IsRemoved, IsTreeFault, NeedsSome, OnlyLooks, OnlyPuts, OnlyTakes, StopsRemoving, name, span_of, steps_of}
 use Rattle.hg_session.specs.Call.{IsLeftAlone, Watched}
 use Rattle.hg_session.specs.Kept.{KeepsLent}
-use Rattle.hg_session.specs.Manifests.{IsReparented, StopsParents}
+use Rattle.hg_session.specs.Manifests.{AsksManifests, IsReparented, StopsParents}
 use Rattle.hg_session.specs.declared.acting.Changing.TheVariants as a_change
-use Rattle.hg_shelf.specs.Asks.{AsksFrontOf}
 use Rattle.hg_shelf.specs.History as shelf
 use Rattle.hg_shelf.proofs.Histories as shelves
 use Rattle.hg_tree.specs.History as tree
@@ -154,7 +146,7 @@ module _ (h : tree.History) (count : ℕ) (files : Watched shelf.History) (old n
   pub acts_parents : (command : Command) (p1 p2 : Id20) → command ≡ a_command.SetParents p1 p2
       → (old.changed ≡ false → IfOk result (λ lines. IsReparented p1 p2 files (table old) (table new) lines.items new.changed))
       → IfErr result (StopsParents p1 p2 files) → OnOk result (KeepsLent old new) → IsOfSameImage old new → shelf.Passes files.old files.new
-      → (IsTrue files.old.told → AsksFrontOf (asks_of p1 ++ asks_of p2) files.old files.new) → HasCause files.before files.after result (λ e. e ≡ an_op.ShelfFailed)
+      → (IsTrue files.old.told → AsksManifests p1 p2 files.old files.new) → HasCause files.before files.after result (λ e. e ≡ an_op.ShelfFailed)
       → IfErr result (λ e. e ≡ an_op.TreeFailed → ⊥) → ActsOn command alone files old new result
   acts_parents command p1 p2 is does stops lent image passes asked shelf_cause kind = subst (λ (c : Command). ActsOn c alone files old new result) (sym is) (record {
     does = does;
@@ -202,27 +194,6 @@ module _ (h : tree.History) (count : ℕ) (files : shelf.History) (counted : ℕ
     tree_failed = λ rose. absurd (omega (arith, rose));
     shelf_cause = record { later = omega arith; quiet = refl; rose = tt };
   }
-
--- ---- faults that are met before the working copy is looked at
-
-pub op_late : {Q : Type 0} (fault : OpFault) → IsEarly (of_op fault) → Q
-op_late an_op.OutOfMemory early = absurd early
-op_late an_op.TreeFailed early = absurd early
-op_late an_op.ShelfFailed early = absurd early
-op_late (an_op.NoManifest id) early = absurd early
-op_late (an_op.ManifestTooLarge size) early = absurd early
-op_late (an_op.ManifestLine line) early = absurd early
-op_late (an_op.ManifestOrder line) early = absurd early
-op_late (an_op.NoContents id) early = absurd early
-
-encode_late : {Q : Type 0} (fault : EncodeFault) → IsEarly (of_encode fault) → Q
-encode_late an_encode.OutOfMemory early = absurd early
-encode_late (an_encode.TooLarge size) early = absurd early
-encode_late an_encode.IdsSpent early = absurd early
-
-pub writing_late : {Q : Type 0} (held : Held) (before after : ℕ) (fault : ChangeFault) → MetWriting held before after fault → IsEarly (of_change fault) → Q
-writing_late held before after fault (inl (e, is, cause, set)) early = encode_late e (subst (λ (f : ChangeFault). IsEarly (of_change f)) is early)
-writing_late held before after fault (inr (is, rose)) early = absurd (subst (λ (f : ChangeFault). IsEarly (of_change f)) is early)
 
 -- ---- the copy
 

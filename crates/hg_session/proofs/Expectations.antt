@@ -1,5 +1,5 @@
 -- What is expected of a status where nobody else steps, from how it ended and what was listed.
-use Rattle.std.proofs.Common.{ℕ, ◌≡◌, ◌≤◌, length, true, List, [], Option, Some, None, Ok, Err, IsTrue, IfSome, refl, sym, ◌∙◌, subst, inl, inr}
+use Rattle.std.proofs.Common.{ℕ, ◌≡◌, ◌≤◌, length, true, List, [], Option, Some, None, Ok, Err, IsTrue, IfSome, refl, sym, ◌∙◌, subst, inl, inr, arith}
 use Rattle.std.proofs.lemmas.List.{append-nil}
 use Rattle.std.specs.Prelude.{IsSomeAnd}
 use Rattle.std.specs.Str.{IsUtf8, IsValidUpTo}
@@ -8,6 +8,7 @@ use Rattle.hg_base.specs.declared.id.Id20.{Id20}
 use Rattle.hg_base.specs.declared.stat.Stat.{Stat}
 use Rattle.hg_compare.specs.Alike.{contents_name, is_alike}
 use Rattle.hg_entry.specs.Table.{Table, flat_of}
+use Rattle.hg_flat.specs.First.{LacksFirst}
 use Rattle.hg_flat.specs.Met as flat_met
 use Rattle.hg_flat.specs.Parent.{manifest_at}
 use Rattle.hg_flat.specs.Patterns.{HadPatterns, ignored_at, needs_patterns}
@@ -49,6 +50,7 @@ use Rattle.hg_session.proofs.Readings as readings
 use Rattle.hg_session.proofs.Refusals.{fine_now, over_now, so_now}
 use Rattle.hg_session.proofs.Parents.{row_kept}
 use Rattle.hg_walk.specs.Notes.{NotesData}
+use Rattle.hg_walk.specs.Right.{AreRight}
 use Rattle.hg_walk.specs.Walking.{rows_in}
 use Rattle.hg_words.specs.declared.flags.StatusFlags.{StatusFlags}
 
@@ -87,9 +89,15 @@ module _ (looked : Looked) (copy : tree.Passes looked.tree.old looked.tree.new) 
   recorded_now : (table : Table) → IsLoaded looked.shelf table → record_in there there ≡ Some (Ok table)
   recorded_now table loaded = readings.read_now looked.shelf files.past still_shelf own.shelf.told table (loaded own.shelf.told)
 
+  -- where times are right over the call, they are by the rows at its start
+  right_now : (table : Table) → IsRightFor looked table → AreRight (rows_in table there) table looked.tree.old looked.tree.new
+  right_now table right =
+      subst (λ (f : shelf.Files). AreRight (rows_in table f) table looked.tree.old looked.tree.new) (files.past.stay looked.shelf.old.last (omega arith)).shown
+      (right looked.shelf.old.last (omega arith) files.past.later)
+
   module _ (wanted : Wanted) where
     -- each path is left alone
-    ours_left : (table : Table) (path : List ℕ) → IsUntouched looked wanted table path
+    ours_left : (table : Table) (path : List ℕ) → IsUntouched there looked wanted table path
     ours_left table path = record {
       own = ours_untouched looked.tree.old looked.tree.new copy own.tree path;
       patterns = λ needs free. record {
@@ -105,8 +113,8 @@ module _ (looked : Looked) (copy : tree.Passes looked.tree.old looked.tree.new) 
       table = table;
       recorded = recorded_now table loaded;
       full =
-          full_of (IsUntouched looked wanted table) (flat_of table) (tree.now looked.tree.old) (rows_in table there) (ignored_at (tree.now looked.tree.old)) wanted rows
-          (ours_left table) (is right);
+          full_of (IsUntouched there looked wanted table) (flat_of table) (tree.now looked.tree.old) (rows_in table there) (ignored_at (tree.now looked.tree.old)) wanted rows
+          (ours_left table) (is there (right_now table right));
     }
 
     abbrev Expects : Option Fault → Type 0
@@ -131,9 +139,10 @@ module _ (looked : Looked) (copy : tree.Passes looked.tree.old looked.tree.new) 
       is = is;
     }
 
-    lacks_contents : (table : Table) → IsLoaded looked.shelf table → HadPatterns wanted looked.tree.old looked.tree.new → (gone : Id20) → flat_met.LacksContents (over table) gone
+    lacks_contents : (table : Table) → IsLoaded looked.shelf table → HadPatterns wanted looked.tree.old looked.tree.new → (gone : Id20) → LacksFirst (over table) gone
         → LacksContents wanted there (tree.now looked.tree.old) gone
-    lacks_contents table loaded had gone met =
+    lacks_contents table loaded had gone first =
+        let met = first.lacks in
         let alike = shows_now (over table) copy.past files.past still_tree still_shelf own.tree.told own.shelf.told
         (λ moment. IsAskedAt wanted table moment met.path × (stat : Stat) × (stat_at moment met.path ≡ Some stat) × IsTrue (is_alike met.row stat)) met.alike in record {
           table = table;
@@ -147,6 +156,7 @@ module _ (looked : Looked) (copy : tree.Passes looked.tree.old looked.tree.new) 
           names = met.names;
           alike = (alike.1, alike.2, alike.3);
           absent = holds_now (over table) copy.past files.past still_tree still_shelf own.tree.told own.shelf.told (contents_name gone.0) (λ file. file ≡ None) met.absent;
+          before = λ other earlier asked. let left = ours_left table other in first.before there other earlier (record { own = left.own; row = left.row }) asked;
         }
 
     bad_patterns : (table : Table) → IsLoaded looked.shelf table → needs_patterns wanted ≡ true → (fault : IgnoreFault) → RefusesPatterns (tree.now looked.tree.old) fault
@@ -185,7 +195,7 @@ module _ (looked : Looked) (copy : tree.Passes looked.tree.old looked.tree.new) 
     status_expected table loaded (a_status.ManifestOrder line) cause p q =
         bad_manifest table loaded (cause.behind refl) cause.met.0 (a_manifest.ManifestOrder line)
         (read_now (over table) copy.past files.past still_tree still_shelf own.tree.told own.shelf.told (Err (a_manifest.ManifestOrder line)) cause.met.0.committed cause.met.1)
-    status_expected table loaded (a_status.NoContents gone) cause p q = lacks_contents table loaded (cause.behind refl) gone cause.met
+    status_expected table loaded (a_status.NoContents gone) cause p q = lacks_contents table loaded (cause.behind refl) gone cause.first
     status_expected table loaded (a_status.IgnoreTooLarge size) cause p q =
         bad_patterns table loaded cause.met.0 (an_ignore.IgnoreTooLarge size) (over_now looked.tree.old looked.tree.new copy own.tree size cause.met.1)
     status_expected table loaded (a_status.IgnoreText at) cause p q =
@@ -212,7 +222,7 @@ module _ (looked : Looked) (copy : tree.Passes looked.tree.old looked.tree.new) 
     none_expected notes (Some table) loaded worked = record {
       table = table;
       ready = ready_now table loaded worked.listable.patterns;
-      served = λ path asked. worked.listable.served path (ours_left table path) asked;
+      served = λ path asked. worked.listable.served there path (ours_left table path) asked;
     }
 
     rows_own : (table : Option Table) → IfSome table (IsLoaded looked.shelf) → IfSome table (IsRightFor looked) → (rows : List Row) → IsSomeAnd table (IsListedFor looked wanted rows)

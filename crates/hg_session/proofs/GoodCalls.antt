@@ -9,7 +9,8 @@ use Rattle.hg_report.specs.declared.fault.Fault.{Fault}
 use Rattle.hg_save.proofs.Others.{last_record}
 use Rattle.hg_save.specs.Others.{HasData, KeepData}
 use Rattle.hg_save.specs.Record.{reading}
-use Rattle.hg_session.proofs.Longer.{right_by_start}
+use Rattle.hg_flat.proofs.Arriving.{there_stays}
+use Rattle.hg_session.proofs.Longer.{right_by_end}
 use Rattle.hg_session.specs.Acts.{AllSteps, ChangesTree, Deed, Stepping, TakesAway, makes_of, span_of, steps_of}
 use Rattle.hg_session.specs.Answered.{Ran}
 use Rattle.hg_session.specs.Call.{Call, Count, IsLeftAlone, Looked, Saved, Sink, Watched}
@@ -27,7 +28,7 @@ use Rattle.hg_session.proofs.Makers.{asks_none}
 use Rattle.hg_session.proofs.GoodTables.{KeepsTable, added_keeps, copied_keeps, forgotten_keeps, noted_good, table_good, table_same, table_through}
 use Rattle.hg_shelf.specs.History as shelf
 use Rattle.hg_shelf.specs.Images.{Goes, Images, course, last_scene}
-use Rattle.hg_shelf.specs.Polite.{KeepsPlain, Undisturbed}
+use Rattle.hg_shelf.specs.Polite.{KeepsThere, StaysPlain, Undisturbed}
 use Rattle.hg_tree.proofs.Histories.{extends_same}
 use Rattle.hg_tree.specs.History as tree
 use Rattle.hg_tree.specs.Honest.{IsHonest}
@@ -59,10 +60,7 @@ each_forget before after word old refused new is = forgotten_keeps word refused 
 each_taken : (gone : Bool) (t : Table) (from to : shelf.History) → KeepsEach (TakesAway gone (span_of t from to))
 each_taken gone t from to before after word old refused new is = forgotten_keeps word refused old new is.removes.table
 
-module _ (copy : Watched tree.History) (files : Watched shelf.History) (past : shelf.Extends files.old files.new) (told : IsTrue files.old.told) (plain : KeepsPlain files.new files.old.last) where
-  abbrev store : shelf.Files
-  store = (shelf.now files.old).files
-
+module _ (copy : Watched tree.History) (files : Watched shelf.History) (store : shelf.Files) (past : shelf.Extends files.old files.new) (told : IsTrue files.old.told) (plain : StaysPlain store files.new files.old.last) where
   -- what a command makes of a good record is good
   pub made_good : (command : Command) (h : tree.History) (loaded made : Table) (lines : List ℕ) (changed : Bool) → (makes_of command copy files).does loaded made lines changed → IsGoodIn store loaded h → IsGoodIn store made h
   made_good (a_command.Add words) h loaded made lines changed does =
@@ -73,7 +71,7 @@ module _ (copy : Watched tree.History) (files : Watched shelf.History) (past : s
       table_good store loaded made h
       (steps_keep (TakesAway gone (span_of loaded does.start files.new)) (each_taken gone loaded does.start files.new) copy.old copy.new does.acted.deeds loaded made does.acted.steps)
   made_good (a_command.Copy source target) h loaded made lines changed does = table_good store loaded made h (copied_keeps source target does.refused loaded made does.copies.table)
-  made_good (a_command.SetParents p1 p2) h loaded made lines changed does = reparented_good files past told plain p1 p2 h loaded made lines changed does
+  made_good (a_command.SetParents p1 p2) h loaded made lines changed does = reparented_good files store told plain p1 p2 h loaded made lines changed does
   made_good command h loaded made lines changed does = table_good store loaded made h (table_same loaded made does.table)
 
 -- ---- what a status makes
@@ -91,13 +89,13 @@ earned_later rows t h later notes past earned = record {
 }
 
 noted_does : (looked : Looked) (table : Option Table) (notes : NotesData) (by : tree.History) → tree.Extends looked.tree.new by → IfSome table (λ t. AreEarnedFor looked t notes)
-    → IsHonest looked.tree.new → IsTrue looked.tree.old.told → KeepsPlain looked.shelf.new looked.shelf.old.last
+    → IsHonest looked.tree.new → IsTrue looked.tree.old.told → KeepsThere looked.shelf.new looked.shelf.old.last
     → (loaded made : Table) (lines : List ℕ) (changed : Bool) → (noted_in looked.shelf table notes).does loaded made lines changed
-    → IsGoodIn (shelf.now looked.shelf.old).files loaded by → IsGoodIn (shelf.now looked.shelf.old).files made by
+    → IsGoodIn (shelf.now looked.shelf.new).files loaded by → IsGoodIn (shelf.now looked.shelf.new).files made by
 noted_does looked None notes by past earned honest told plain loaded made lines changed does good = absurd does
 noted_does looked (Some t) notes by past earned honest told plain loaded made lines changed does good =
-    let store = (shelf.now looked.shelf.old).files in
-    noted_good store t loaded made notes by by (extends_same by) does.0 does.1 (earned_later (rows_in t store) t looked.tree.new by notes past (earned honest told plain)) good
+    let store = (shelf.now looked.shelf.new).files in
+    noted_good store t loaded made notes by by (extends_same by) does.0 does.1 (earned_later (rows_in t store) t looked.tree.new by notes past (earned store honest told (there_stays looked.shelf.new looked.shelf.old.last plain))) good
 
 -- ---- the working copy
 
@@ -148,7 +146,7 @@ module _ (copy : Watched tree.History) (files : Watched shelf.History) (oversize
   change_stays command is by past fair ground =
       good_stays saved.old saved.new is.kept fair.calm fair.keep fair.plain fair.parent by fair.published ground.good (shown (is.kept.past.told ∙ fair.calm.told)) (makes_of command copy files)
       (λ from after within none. asks_none command copy files files.new from)
-      (λ loaded made lines changed does there. made_good copy files is.kept.past fair.calm.told fair.plain command by loaded made lines changed does there)
+      (λ loaded made lines changed does there. made_good copy files (shelf.now files.new).files is.kept.past fair.calm.told (there_stays files.new files.old.last fair.plain) command by loaded made lines changed does there)
       fault (is.safe fair.calm) (is.crash fair.calm fair.keep ground.latest)
 
   status_stays : (flags : StatusFlags) → RanStatus flags (call (a_command.Status flags)) code fault → StaysGood looked saved
@@ -168,8 +166,10 @@ module _ (copy : Watched tree.History) (files : Watched shelf.History) (oversize
       before saved.old saved.new goes fair.calm fair.keep fair.plain fair.parent copy.old fair.published ground.good was.at was.during.from within
       (λ j after below. read.none j after (omega (arith, below, was.during.to))) (files.new.at was.at).files (shown (goes.past.told ∙ fair.calm.told) was.at within) in
       let same : stood.0 ≡ t = one_table (reading (files.new.at was.at).files) stood.0 t stood.1 was.reading in
-      let trusted : IsTrusted (rows_in t (shelf.now files.old).files) t copy.old = subst (λ (t : Table). IsTrusted (rows_in t (shelf.now files.old).files) t copy.old) same stood.2.trusted in
-      right_by_start looked t goes.past fair.plain (trusted_are_right (rows_in t (shelf.now files.old).files) t copy.old copy.new past fair.honest apart trusted)
+      let store = (shelf.now files.new).files in
+      let trusted : IsTrusted (rows_in t store) t copy.old = subst (λ (t : Table). IsTrusted (rows_in t store) t copy.old) same stood.2.trusted in
+      let right = trusted_are_right (rows_in t store) t copy.old copy.new past fair.honest apart trusted in
+      record { end = right; each = λ keeps. right_by_end looked t goes.past.later keeps right }
 
   look_good : (command : Command) → tree.Extends copy.old copy.new → IsLook (call command) code fault → KeepsGood looked saved
   look_good command past is = record { past = past; stays = look_stays command is; right = reads_right past is.only.kept }
@@ -186,5 +186,5 @@ module _ (copy : Watched tree.History) (files : Watched shelf.History) (oversize
   ran_good (a_command.Copy source target) ran = change_good (a_command.Copy source target) ran
   ran_good (a_command.SetParents p1 p2) ran = change_good (a_command.SetParents p1 p2) ran
   ran_good a_command.DebugDirstate ran = look_good a_command.DebugDirstate (alone_past copy ran.alone) ran.look
-  ran_good a_command.DebugScript ran = look_good a_command.DebugScript (alone_past copy ran.idle.copy) ran.look
-  ran_good (a_command.DebugLoad n) ran = look_good (a_command.DebugLoad n) (alone_past copy ran.idle.copy) ran.look
+  ran_good a_command.DebugScript ran = look_good a_command.DebugScript (alone_past copy ran.undone.idle.copy) ran.look
+  ran_good (a_command.DebugLoad n) ran = look_good (a_command.DebugLoad n) (alone_past copy ran.undone.idle.copy) ran.look

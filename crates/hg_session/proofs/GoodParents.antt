@@ -1,7 +1,6 @@
 -- A record with new parents is good, by the manifests that were loaded.
-use Rattle.std.proofs.Common.{ℕ, ◌≡◌, ◌≤◌, Bool, true, false, not, ◌&&◌, ◌||◌, cond, List, [], length, take, Option, Some, None, Result, Ok, Err, refl, sym, ap, ◌∙◌, subst, arith, le-ltb, true≢false}
+use Rattle.std.proofs.Common.{ℕ, ◌≡◌, Bool, true, false, not, ◌&&◌, ◌||◌, cond, List, [], Option, Some, None, Result, Ok, refl, sym, ap, ◌∙◌, subst, arith, true≢false}
 use Rattle.std.specs.Prelude.{IsTrue, MatchBool, is_some}
-use Rattle.std.proofs.Math.Seq.{take-length}
 use Rattle.hg_base.specs.PathText.{is_component, joined}
 use Rattle.hg_base.specs.declared.id.Id20.{Id20}
 use Rattle.hg_base.proofs.Components.{parent_joined}
@@ -9,50 +8,34 @@ use Rattle.hg_base.proofs.Paths.{component_plain}
 use Rattle.hg_entry.specs.Entry.{CacheData, EntryData}
 use Rattle.hg_entry.specs.Table.{Table}
 use Rattle.hg_flat.specs.Parent.{manifest_at, parent_rows}
-use Rattle.hg_manifest.specs.Load.{During, IsFrontOf, Reads, file_at, file_manifest}
-use Rattle.hg_manifest.specs.Plain.{is_null, most, plain_name}
-use Rattle.hg_manifest.specs.Rows.{Rows, manifest_of}
+use Rattle.hg_manifest.proofs.Loads.{read_in}
+use Rattle.hg_manifest.specs.Load.{Reads, file_manifest}
+use Rattle.hg_manifest.specs.Plain.{is_null, plain_name}
+use Rattle.hg_manifest.specs.Rows.{Rows}
 use Rattle.hg_manifest.specs.declared.fault.ManifestFault.{ManifestFault}
-use Rattle.hg_manifest.specs.declared.fault.ManifestFault.TheVariants as a_fault
 use Rattle.hg_nodes.specs.Clash.{is_tracked_entry}
 use Rattle.hg_ops.specs.Parents.{HasParents, entry_of_parents, fallback_in, is_other_file, row_at}
 use Rattle.hg_session.specs.Call.{Watched}
 use Rattle.hg_session.specs.Good.{IsGoodIn}
 use Rattle.hg_session.specs.Manifests.{IsReparented, LoadsRows}
-use Rattle.hg_shelf.specs.History.{Extends, Files, History, now}
-use Rattle.hg_shelf.specs.Polite.{KeepsPlain, is_plain}
-use Rattle.hg_shelf.specs.Reads.{size_of}
+use Rattle.hg_shelf.specs.History.{Files, History}
+use Rattle.hg_shelf.specs.Polite.{StaysIn, StaysPlain}
 use Rattle.hg_tree.specs.History as tree
 use Rattle.hg_walk.proofs.Keeps.{others_are_trusted}
 use Rattle.hg_walk.specs.Keeping.{KeepsCaches, NoneCouldVouch}
 use Rattle.hg_walk.specs.Trust.{is_first, is_second}
 
--- ---- the manifest that was loaded stands there
+-- ---- the manifest that was loaded is a store's
 
-pub manifest_plain : (id : List ℕ) → is_plain (plain_name id) ≡ true
-manifest_plain id = refl
-
-whole : (size : ℕ) (bytes : List ℕ) (file : Option (List ℕ)) → size_of file ≡ Some size → IsFrontOf size bytes file → (file ≡ Some bytes) × (length bytes ≡ size)
-whole size bytes None sized front = absurd front
-whole size bytes (Some text) sized front =
-    let len : length text ≡ size = cc sized in
-    let same : bytes ≡ text = front ∙ ap (λ (n : ℕ). take n text) (sym len) ∙ take-length text in
-    (ap Some (sym same), ap length same ∙ len)
-
-module _ (files : Watched History) (past : Extends files.old files.new) (told : IsTrue files.old.told) (plain : KeepsPlain files.new files.old.last) where
-  abbrev store : Files
-  store = (now files.old).files
-
+module _ (files : Watched History) (store : Files) (told : IsTrue files.old.told) (plain : StaysPlain store files.new files.old.last) where
   abbrev read_as : Rows → Result Rows ManifestFault
   read_as rows = Ok rows
 
-  -- a plain file is the same at each moment of the call
-  same_at : (id : Id20) (rows : Rows) (is : LoadsRows files id (Ok rows)) (k : ℕ) → During is.old is.new k → file_at is.new (plain_name id.0) k ≡ store (plain_name id.0)
-  same_at id rows is k during =
+  -- a plain file that is there at a moment of a load is the store's
+  stays_loaded : (id : Id20) (rows : Rows) (is : LoadsRows files id (Ok rows)) → StaysIn store is.new is.old.last (plain_name id.0)
+  stays_loaded id rows is k from upto bytes there =
       let name = plain_name id.0 in
-      sym (ap (λ (f : Files). f name) (is.behind.stay k during.to).shown)
-      ∙ plain.each name (manifest_plain id.0) k (omega (arith, is.before.later, during.from)) (omega (arith, during.to, is.behind.later))
-      ∙ ap (λ (f : Files). f name) (past.stay files.old.last (omega arith)).shown
+      plain.each name refl k (omega (arith, is.before.later, from)) (omega (arith, upto, is.behind.later)) bytes (ap (λ (f : Files). f name) (is.behind.stay k upto).shown ∙ there)
 
   pub manifest_loaded : (id : Id20) (rows : Rows) → LoadsRows files id (Ok rows) → manifest_at store id ≡ Ok rows
   manifest_loaded id rows is = by (is_null id.0) refl is.answers
@@ -63,16 +46,8 @@ module _ (files : Watched History) (past : Extends files.old files.new) (told : 
           let took = reads.took in
           let there : IsTrue is.old.told = is.before.told ∙ told in
           let during = took.sized.during there in
-          let sized : size_of (store (plain_name id.0)) ≡ Some took.size =
-          subst (λ (f : Option (List ℕ)). size_of f ≡ Some took.size) (same_at id rows is took.sized.at during) (took.sized.so there) in
-          let last : During is.old is.new is.new.last = record { from = omega (arith, during.from, during.to); to = omega arith } in
-          let front : IsFrontOf took.size reads.bytes (store (plain_name id.0)) = subst (IsFrontOf took.size reads.bytes) (same_at id rows is is.new.last last) (took.front there) in
-          let all = whole took.size reads.bytes (store (plain_name id.0)) sized front in
-          let few : length reads.bytes ≤ most = omega (arith, took.short, took.few) in
-          ap (λ (t : Bool). cond t (Ok []) (file_manifest id (store (plain_name id.0)))) some
-          ∙ ap (file_manifest id) all.0
-          ∙ ap (λ (t : Bool). cond t (Err (a_fault.ManifestTooLarge (length reads.bytes))) (manifest_of reads.bytes)) (le-ltb most (length reads.bytes) few)
-          ∙ reads.found
+          read_in store is.old is.new (plain_name id.0) id took.size reads.bytes (read_as rows) there (stays_loaded id rows is) some took.few took.short took.sized
+          (record { at = is.new.last; during = λ known. record { from = omega (arith, during.from, during.to); to = omega arith }; so = took.front }) reads.found
 
 -- ---- the entries by both manifests
 
@@ -169,16 +144,16 @@ module _ (p1 p2 : List ℕ) (m1 m2 : Rows) (old new : Table) (is : HasParents p1
 
 -- ---- new parents
 
-pub reparented_good : (files : Watched History) → Extends files.old files.new → IsTrue files.old.told → KeepsPlain files.new files.old.last → (p1 p2 : Id20) (h : tree.History) (old new : Table) (lines : List ℕ) (changed : Bool)
-    → IsReparented p1 p2 files old new lines changed → IsGoodIn (now files.old).files old h → IsGoodIn (now files.old).files new h
-reparented_good files past told plain p1 p2 h old new lines changed is good = record {
+pub reparented_good : (files : Watched History) (store : Files) → IsTrue files.old.told → StaysPlain store files.new files.old.last → (p1 p2 : Id20) (h : tree.History) (old new : Table) (lines : List ℕ) (changed : Bool)
+    → IsReparented p1 p2 files old new lines changed → IsGoodIn store old h → IsGoodIn store new h
+reparented_good files store told plain p1 p2 h old new lines changed is good = record {
   consistent = record {
     files = is.m1;
-    read = subst (λ (p : List ℕ). manifest_at (now files.old).files (record { 0 = p }) ≡ Ok is.m1) (sym is.parents.p1_is) (manifest_loaded files past told plain p1 is.m1 is.first);
+    read = subst (λ (p : List ℕ). manifest_at store (record { 0 = p }) ≡ Ok is.m1) (sym is.parents.p1_is) (manifest_loaded files store told plain p1 is.m1 is.first);
     first = first_kept p1.0 p2.0 is.m1 is.m2 old new is.parents;
     second = λ null. second_kept p1.0 p2.0 is.m1 is.m2 old new is.parents (subst (λ (p : List ℕ). is_null p ≡ true) is.parents.p2_is null);
   };
   trusted =
-      others_are_trusted (parent_rows (now files.old).files (record { 0 = old.p1 })) (parent_rows (now files.old).files (record { 0 = new.p1 })) old new h good.trusted
+      others_are_trusted (parent_rows store (record { 0 = old.p1 })) (parent_rows store (record { 0 = new.p1 })) old new h good.trusted
       (caches_kept p1.0 p2.0 is.m1 is.m2 old new is.parents) (none_vouches p1.0 p2.0 is.m1 is.m2 old new is.parents);
 }

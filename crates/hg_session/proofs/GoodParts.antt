@@ -4,8 +4,8 @@ use Rattle.hg_docket.specs.Docket.{docket_of}
 use Rattle.hg_save.proofs.Spans.{keep_stood, stays_itself}
 use Rattle.hg_save.specs.Behind.{KeepsUsed}
 use Rattle.hg_save.specs.Loads.{files_at}
-use Rattle.hg_save.specs.Others.{HasData, HasFront, KeepData, KeepsFront, KeepsStood, StaysFront, UsesData, named_file}
-use Rattle.hg_save.specs.Record.{docket_in}
+use Rattle.hg_save.specs.Others.{HasData, HasFront, KeepData, KeepsFront, KeepsStood, StaysFront, UsesData, named_file, nodes_in}
+use Rattle.hg_save.specs.Record.{shown_in}
 use Rattle.hg_session.specs.Change.{NoneOurs, up_to}
 use Rattle.hg_session.specs.Good.{OthersKeepStood}
 use Rattle.hg_shelf.proofs.Histories.{stays_same}
@@ -18,10 +18,10 @@ module _ (a b : History) (past : Extends a b) where
   there k within = (past.stay k within).shown
 
   abbrev Has : Files → Type 0
-  Has f = UsesData (docket_in f) → HasFront (docket_of (docket_in f)).used (named_file (docket_in f) f)
+  Has f = UsesData (shown_in f) → HasFront (docket_of (shown_in f)).used (nodes_in f)
 
   abbrev Keeps : Files → Files → Type 0
-  Keeps f g = UsesData (docket_in f) → KeepsFront (docket_of (docket_in f)).used (named_file (docket_in f) f) (named_file (docket_in f) g)
+  Keeps f g = UsesData (shown_in f) → KeepsFront (docket_of (shown_in f)).used (nodes_in f) (named_file (shown_in f) g)
 
   -- what is kept throughout was kept before
   pub data_before : (from : ℕ) → KeepData b from → KeepData a from
@@ -49,7 +49,7 @@ from_moment h k within = record { told = refl; later = within; who = λ j below.
 
 -- the data of a docket that stood stay from some files to others
 abbrev Stays : Files → Files → Files → Type 0
-Stays stood before behind = UsesData (docket_in stood) → StaysFront (docket_of (docket_in stood)).used (named_file (docket_in stood) before) (named_file (docket_in stood) behind)
+Stays stood before behind = UsesData (shown_in stood) → StaysFront (docket_of (shown_in stood)).used (named_file (shown_in stood) before) (named_file (shown_in stood) behind)
 
 -- they do over a shorter history
 pub stood_shorter : (h g : History) (from : ℕ) → Extends h g → OthersKeepStood g from → OthersKeepStood h from
@@ -85,8 +85,8 @@ module _ (c : Course) (from : ℕ) (told : IsTrue c.history.told) (only : Others
   read_stood : (k : ℕ) → from ≤ k → k < h.last → h.who k ≡ readers → KeepsStood h from k
   read_stood k after before who = record {
     kept = λ j since upto uses.
-        subst (λ (f : Files). StaysFront (docket_of (docket_in (files_at h j))).used (named_file (docket_in (files_at h j)) (files_at h k)) (named_file (docket_in (files_at h j)) f)) (sym (only.same k after before who).shown)
-        (stays_itself (docket_of (docket_in (files_at h j))).used (named_file (docket_in (files_at h j)) (files_at h k)));
+        subst (λ (f : Files). StaysFront (docket_of (shown_in (files_at h j))).used (named_file (shown_in (files_at h j)) (files_at h k)) (named_file (shown_in (files_at h j)) f)) (sym (only.same k after before who).shown)
+        (stays_itself (docket_of (shown_in (files_at h j))).used (named_file (shown_in (files_at h j)) (files_at h k)));
     there = subst (λ (f : Files). HasData (files_at h k) → HasData f) (sym (only.same k after before who).shown) (λ has. has);
   }
 

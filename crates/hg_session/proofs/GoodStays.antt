@@ -1,5 +1,5 @@
 -- Whatever a crash leaves of the record stays good throughout a call.
-use Rattle.std.proofs.Common.{ℕ, ◌≡◌, ◌≤◌, Bool, true, false, cond, List, [], Option, Some, None, option_map, Result, Ok, refl, sym, ap, ◌∙◌, subst, arith, inl, inr}
+use Rattle.std.proofs.Common.{ℕ, ◌≡◌, ◌≤◌, ◌+◌, Bool, true, false, cond, List, [], Option, Some, None, option_map, Result, Ok, Err, refl, sym, ap, ◌∙◌, subst, arith, inl, inr}
 use Rattle.hg_base.specs.declared.id.Id20.{Id20}
 use Rattle.hg_compare.specs.Alike.{contents_name}
 use Rattle.hg_compare.specs.Same.{parent_row}
@@ -24,7 +24,7 @@ use Rattle.hg_session.specs.Good.{HoldsParent, IsGoodIn, IsGoodRecord, IsOfParen
 use Rattle.hg_session.proofs.GoodTables.{table_good, table_same}
 use Rattle.hg_shelf.specs.History.{Files, others}
 use Rattle.hg_shelf.specs.Images.{Course, Goes, last_scene, scene}
-use Rattle.hg_shelf.specs.Polite.{KeepsPlain, Undisturbed, is_plain}
+use Rattle.hg_shelf.specs.Polite.{KeepsThere, Undisturbed, is_plain}
 use Rattle.hg_tree.specs.History as tree
 use Rattle.hg_walk.proofs.Growing.{trust_stays}
 use Rattle.hg_walk.specs.Walking.{first_id, rows_in}
@@ -43,7 +43,7 @@ module _ (id : Id20) (f g : Files) (holds : HoldsParent id f g) where
   abbrev read_as : Rows → Result Rows ManifestFault
   read_as rows = Ok rows
 
-  manifest_held : (rows : Rows) → manifest_at f id ≡ Ok rows → manifest_at g id ≡ Ok rows
+  pub manifest_held : (rows : Rows) → manifest_at f id ≡ Ok rows → manifest_at g id ≡ Ok rows
   manifest_held rows is = by (is_null id.0) refl
     where
       by_file : (file : Option (List ℕ)) → f (plain_name id.0) ≡ file → is_null id.0 ≡ false → file_manifest id file ≡ read_as rows → manifest_at g id ≡ read_as rows
@@ -94,13 +94,21 @@ good_held f g t h holds good = record {
 }
 
 -- all that decides a parent is plain
-plain_of : (files : Files) (id : Id20) (name : List ℕ) → IsOfParent files id name → is_plain name ≡ true
+pub plain_of : (files : Files) (id : Id20) (name : List ℕ) → IsOfParent files id name → is_plain name ≡ true
 plain_of files id name (inl same) = let plain : is_plain (plain_name id.0) ≡ true = refl in ap is_plain same ∙ plain
 plain_of files id name (inr (path, row, there, same)) = let plain : is_plain (contents_name row.id.0) ≡ true = refl in ap is_plain same ∙ plain
 
--- what is good by a plain store is by one that has the same files
-pub good_alike : (f g : Files) → ((name : List ℕ) → is_plain name ≡ true → g name ≡ f name) → (t : Table) (h : tree.History) → IsGoodIn f t h → IsGoodIn g t h
-good_alike f g alike t h = good_held f g t h (λ name bytes of there. alike name (plain_of f (first_id t) name of) ∙ there)
+-- what files need of a parent in a store is had where the store's is, which holds theirs
+pub holds_front : (id : Id20) (f g c : Files) → HoldsParent id f g → HoldsParent id g c → HoldsParent id f c
+holds_front id f g c front holds name bytes of there = holds name bytes (by of) (front name bytes of there)
+  where
+    row : (path : List ℕ) (found : FileRow) (answer : Result Rows ManifestFault) → manifest_at f id ≡ answer → row_among answer path ≡ Some found → row_among (manifest_at g id) path ≡ Some found
+    row path found (Err fault) is has = absurd (cc has)
+    row path found (Ok rows) is has = ap (λ (m : Result Rows ManifestFault). row_among m path) (manifest_held id f g front rows is) ∙ has
+
+    by : IsOfParent f id name → IsOfParent g id name
+    by (inl same) = inl same
+    by (inr (path, found, has, same)) = inr (path, found, row path found (manifest_at f id) refl has, same)
 
 -- what was good is, over a longer history
 pub good_later : (files : Files) (t : Table) (h later : tree.History) → tree.Extends h later → IsGoodIn files t h → IsGoodIn files t later
@@ -108,9 +116,9 @@ good_later files t h later past good = record { consistent = good.consistent; tr
 
 -- ---- a call
 
-module _ (a b : Course) (goes : Goes a b) (calm : Undisturbed a b) (keep : KeepsRecords others b a.history.last) (plain : KeepsPlain b.history a.history.last)
-    (parent : (k : ℕ) → a.history.last ≤ k → k ≤ b.history.last → LeavesParent (scene b k))
-    (h : tree.History) (published : (t : Table) → WasPublished b a.history.last b.history.last (Some (Ok t)) → IsGoodIn (last_scene a).files t h) (good : LeavesGood h (last_scene a)) where
+module _ (a b : Course) (goes : Goes a b) (calm : Undisturbed a b) (keep : KeepsRecords others b a.history.last) (plain : KeepsThere b.history a.history.last)
+    (parent : (k : ℕ) → a.history.last ≤ k → k ≤ b.history.last → LeavesParent (last_scene b).files (scene b k))
+    (h : tree.History) (published : (t : Table) (was : WasPublished b a.history.last b.history.last (Some (Ok t))) → IsGoodIn (scene b (was.at + 1)).files t h) (good : LeavesGood h (last_scene a)) where
   abbrev saved : Saved
   saved = record { old = a; new = b }
 
@@ -118,32 +126,29 @@ module _ (a b : Course) (goes : Goes a b) (calm : Undisturbed a b) (keep : Keeps
   start = a.history.last
 
   abbrev store : Files
-  store = (last_scene a).files
+  store = (last_scene b).files
 
-  -- the plain store at a moment of the call is that of its start
-  alike_at : (k : ℕ) → start ≤ k → k ≤ b.history.last → (name : List ℕ) → is_plain name ≡ true → (scene b k).files name ≡ store name
-  alike_at k after within name is = plain.each name is k after within ∙ ap (λ (f : Files). f name) (goes.kept start (omega arith)).shown
+  -- what is there at a moment of the call is so at its end
+  to_end : (k : ℕ) → start ≤ k → k ≤ b.history.last → (t : Table) → HoldsParent (first_id t) (scene b k).files store
+  to_end k after within t name bytes of there = plain.each name (plain_of (scene b k).files (first_id t) name of) k b.history.last after within (omega arith) bytes there
 
-  -- what a crash leaves is good by what it leaves of the plain store, where it is by that of the start
+  -- what a crash leaves is good by what it leaves of the plain store, where it is by that of the end
   record_left : (k : ℕ) → start ≤ k → k ≤ b.history.last → (f : Files) → (scene b k).leaves f → IsGoodRecord store h (reading f) → IsGoodRecord f h (reading f)
-  record_left k after within f left is = (
-    is.0,
-    is.1,
-    good_held (scene b k).files f is.0 h ((parent k after within).shown f is.0 left is.1) (good_alike store (scene b k).files (alike_at k after within) is.0 h is.2),
-  )
+  record_left k after within f left is = (is.0, is.1, good_held store f is.0 h ((parent k after within).shown f is.0 left is.1) is.2)
 
   -- and at the start the other way round
   by_start : (f : Files) → (last_scene a).leaves f → IsGoodRecord store h (reading f)
   by_start f left =
       let there = good f left in
       let holds : HoldsParent (first_id there.0) f (scene b start).files = (parent start (omega arith) goes.past.later).left f there.0 ((goes.back start (omega arith)).left f left) there.1 in
-      (there.0, there.1, good_held f store there.0 h (subst (HoldsParent (first_id there.0) f) (goes.kept start (omega arith)).shown holds) there.2)
+      (there.0, there.1, good_held (scene b start).files store there.0 h (to_end start (omega arith) goes.past.later there.0) (good_held f (scene b start).files there.0 h holds there.2))
 
   of_others : (k : ℕ) → k ≤ b.history.last → (r : Option (Result Table RecordFault)) → WasPublished b start k r → IsGoodRecord store h r
   of_others k within r was =
       let sound = published_sound b start k r keep within was in
       let all : WasPublished b start b.history.last r = published_later b start k b.history.last r within was in
-      (sound.0, sound.1, published sound.0 (subst (λ (r : Option (Result Table RecordFault)). WasPublished b start b.history.last r) sound.1 all))
+      let own : WasPublished b start b.history.last (Some (Ok sound.0)) = subst (λ (r : Option (Result Table RecordFault)). WasPublished b start b.history.last r) sound.1 all in
+      (sound.0, sound.1, good_held (scene b (own.at + 1)).files store sound.0 h (to_end (own.at + 1) (omega (arith, own.from)) (omega (arith, own.to)) sound.0) (published sound.0 own))
 
   -- as long as the caller made no step
   pub before : (k : ℕ) → start ≤ k → k ≤ b.history.last → NoneOurs b.history start k → (f : Files) → (scene b k).leaves f → IsGoodRecord store h (reading f)

@@ -21,7 +21,7 @@ use Rattle.hg_save.proofs.Others.{one_load}
 use Rattle.hg_save.specs.Asked.{docket_ask}
 use Rattle.hg_save.specs.Loads.{IsTry, Loads, Try, files_at, found_by}
 use Rattle.hg_save.specs.Others.{IsFrontOf, KeepData, named_file}
-use Rattle.hg_save.specs.Record.{docket_in}
+use Rattle.hg_save.specs.Record.{docket_in, shown_in}
 use Rattle.hg_save.specs.declared.loaded.Loaded.{Loaded}
 use Rattle.hg_save.proofs.Bases.{nodes_at}
 use Rattle.hg_session.proofs.Lending.{lends_by}
@@ -36,7 +36,7 @@ use Rattle.hg_session.specs.Anew.{IsRecorded, MetWriting, WritesOnly}
 use Rattle.hg_session.specs.Call.{Saved, Watched}
 use Rattle.hg_session.specs.Acts.{StandsAt}
 use Rattle.hg_session.specs.Change.{FailsOrUnwritten, IsKept, IsSafeHeld, IsUnwritten, MayFollowWriting, fault_of, up_to}
-use Rattle.hg_session.specs.Saving.{AnotherStood, CannotWrite, IsNoted, IsOpenedSince, SavesHeld, noted_makes, save_fault, unless_full}
+use Rattle.hg_session.specs.Saving.{AnotherStood, CannotWrite, IsNoted, IsOpenedSince, IsTryOf, SavesHeld, noted_makes, save_fault, unless_full}
 use Rattle.hg_session.specs.Kept.{AreNews}
 use Rattle.hg_session.specs.Ways.{IsMadeOver, LendsUnchanged, stood_by}
 use Rattle.hg_session.specs.declared.change_fault.ChangeFault.{ChangeFault}
@@ -135,10 +135,10 @@ module _ (first mid last : ℕ) (made : Held) (same : mid ≡ first) (later : mi
 -- ---- the record, under the lock
 
 -- the start of the call, where the lock was got, behind the look at the docket, and the end
-module _ (start : History) (b s c : Course) (ours : b.history.ours ≡ true) (passes : Passes b.history s.history) (first : Goes b s) (goes : Goes s c) (loaded : Loaded) (sound : docket_refusal loaded.docket.items ≡ None)
+module _ (start : History) (b s c : Course) (ours : b.history.ours ≡ true) (passes : Passes b.history s.history) (first : Goes b s) (goes : Goes s c) (loaded : Loaded) (sound : docket_refusal loaded.shown.items ≡ None)
     (recorded : Table) (opened : Held) (since : IsOpenedSince start b.history loaded recorded opened) (notes : NotesData) (before after : ℕ) where
   abbrev bytes : List ℕ
-  bytes = loaded.docket.items
+  bytes = loaded.shown.items
 
   abbrev files : Watched History
   files = record { old = b.history; new = c.history; before = before; after = after }
@@ -146,8 +146,11 @@ module _ (start : History) (b s c : Course) (ours : b.history.ours ≡ true) (pa
   abbrev saved : Saved
   saved = record { old = b; new = c }
 
+  abbrev Own : Try → Type 0
+  Own = IsTryOf start b.history loaded recorded opened since
+
   abbrev Holds : Result Unit SaveFault → Type 0
-  Holds result = SavesHeld start files saved recorded notes (save_fault result)
+  Holds result = SavesHeld Own start files saved recorded notes (save_fault result)
 
   long : Extends since.mid c.history
   long = extends_trans since.mid b.history c.history since.past (extends_trans b.history s.history c.history passes.past goes.past)
@@ -183,8 +186,11 @@ module _ (start : History) (b s c : Course) (ours : b.history.ours ≡ true) (pa
         found_longer start since.mid c.history (loads.0 ∷ []) long loads.1.tried ∙ loads.1.answer.reading
         ∙ ap (λ (r : Result Table RecordFault). Some r) (sound_reading bytes loaded.nodes.items sound ∙ ap (λ (r : Result Table NodeFault). of_data r) since.nodes)
 
-    docket_read : docket_in (files_at c.history tried.docket) ≡ bytes
-    docket_read = ap docket_in (long.stay tried.docket within_mid.docket.to).shown ∙ sym loads.1.answer.docket
+    docket_read : shown_in (files_at c.history tried.docket) ≡ bytes
+    docket_read = ap shown_in (long.stay tried.docket within_mid.docket.to).shown ∙ sym loads.1.answer.shown
+
+    whole_read : docket_in (files_at c.history tried.docket) ≡ loaded.docket.items
+    whole_read = ap docket_in (long.stay tried.docket within_mid.docket.to).shown ∙ sym loads.1.answer.docket
 
     -- a table in memory that was opened over it
     over_since : (made : Held) → made.docket ≡ docket_of bytes → made.bytes ≡ loaded.nodes.items → IsSame (table made) (applied notes recorded) → LendsUnchanged made
@@ -192,7 +198,7 @@ module _ (start : History) (b s c : Course) (ours : b.history.ours ≡ true) (pa
     over_since made is nodes same lends = record {
       docket = is ∙ ap docket_of (sym docket_read);
       nodes =
-          subst (λ (f : Files). 0 < made.docket.used → IsFrontOf (named_file (docket_in (files_at c.history tried.docket)) f) made.docket.used made.bytes) (sym (long.stay tried.file within_mid.file.to).shown)
+          subst (λ (f : Files). 0 < made.docket.used → IsFrontOf (named_file (shown_in (files_at c.history tried.docket)) f) made.docket.used made.bytes) (sym (long.stay tried.file within_mid.file.to).shown)
           (subst (λ (l : List ℕ). 0 < made.docket.used → IsFrontOf (named_file l (files_at since.mid tried.file)) made.docket.used made.bytes) (sym docket_read)
           (subst (λ (l : List ℕ). 0 < made.docket.used → IsFrontOf (named_file bytes (files_at since.mid tried.file)) made.docket.used l) (sym nodes)
           (subst (λ (d : Contents). 0 < d.used → IsFrontOf (named_file bytes (files_at since.mid tried.file)) d.used loaded.nodes.items) (sym is)
@@ -209,9 +215,9 @@ module _ (start : History) (b s c : Course) (ours : b.history.ours ≡ true) (pa
   mid_got = record { told = long.told; later = since.past.later; who = long.who; stay = long.stay }
 
   -- the docket stands
-  module _ (is : IsTrue b.history.told → docket_in (now s.history).files ≡ bytes) where
-    there : Undisturbed b c → docket_in (scene c b.history.last).files ≡ bytes
-    there calm = ap docket_in (sym (end_remains b s c ours passes goes calm).shown) ∙ is calm.told
+  module _ (is : IsTrue b.history.told → shown_in (now s.history).files ≡ bytes) where
+    there : Undisturbed b c → shown_in (scene c b.history.last).files ≡ bytes
+    there calm = ap shown_in (sym (end_remains b s c ours passes goes calm).shown) ∙ is calm.told
 
     noted_stands : Undisturbed b c → KeepData got start.last → StandsAt c b.history.last recorded
     noted_stands calm keep =
@@ -259,9 +265,10 @@ module _ (start : History) (b s c : Course) (ours : b.history.ours ≡ true) (pa
         )
       ]
 
-      unfit : Undisturbed b c → (fault : EncodeFault) → (fault ≡ an_encode.OutOfMemory → ⊥) → HasCauseBy made (plan_of made) fault → made.changed ≡ true → CannotWrite start c.history recorded notes
+      unfit : Undisturbed b c → (fault : EncodeFault) → (fault ≡ an_encode.OutOfMemory → ⊥) → HasCauseBy made (plan_of made) fault → made.changed ≡ true → CannotWrite Own start c.history recorded notes
       unfit calm fault other cause set = record {
         tried = tried calm.told;
+        own = (start_told (goes.past.told ∙ passes.past.told ∙ calm.told), refl);
         within = within_end calm.told;
         found = found_end calm.told;
         fault = fault;
@@ -275,16 +282,17 @@ module _ (start : History) (b s c : Course) (ours : b.history.ours ≡ true) (pa
           subst (IsSame (applied notes recorded)) (sym made_is ∙ same ∙ one_table (table opened) recorded since.same) (same_table (applied notes recorded))
 
       noted_unfit : (mid last : ℕ) (fault : EncodeFault) → (fault ≡ an_encode.OutOfMemory → ⊥) → MetWriting made mid last (a_change.Encode fault) → FailsOrUnwritten s.history c.history (a_change.Encode fault)
-          → Undisturbed b c → IsNoted start recorded notes saved b.history.last c.history.last
+          → Undisturbed b c → IsNoted Own start recorded notes saved b.history.last c.history.last
       noted_unfit mid last fault other why failed calm =
           inl (inr (inl (unfit calm fault other (cause_in made mid last fault why) (set_in made mid last fault why))), unwritten_then b s c passes goes (none_in fault s.history c.history failed))
 
       -- where the notes were written into the table, and that was published or couldn't be
       module _ (marked : (IsSame (table made) (table opened) → ⊥) → made.changed ≡ true) (none : made.changed ≡ false → c ≡ s) where
-        noted_ok : ((plan_of made ≡ a_way.Append → HasUsed loaded (last_scene s)) → made.changed ≡ true → IsRecorded made s c) → Undisturbed b c → IsNoted start recorded notes saved b.history.last c.history.last
+        noted_ok : ((plan_of made ≡ a_way.Append → HasUsed loaded (last_scene s)) → made.changed ≡ true → IsRecorded made s c) → Undisturbed b c → IsNoted Own start recorded notes saved b.history.last c.history.last
         noted_ok is_recorded calm = elim (cases_Bool made.changed) [
           | inl set ↦ inr (record {
             tried = tried calm.told;
+            own = (start_told (goes.past.told ∙ passes.past.told ∙ calm.told), refl);
             within = within_end calm.told;
             found = found_end calm.told;
             held = made;
@@ -298,7 +306,7 @@ module _ (start : History) (b s c : Course) (ours : b.history.ours ≡ true) (pa
         ]
 
         ends_by : (mid last : ℕ) (result : Result Unit ChangeFault) → ((plan_of made ≡ a_way.Append → HasUsed loaded (last_scene s)) → OnOk result (made.changed ≡ true → IsRecorded made s c)) → IfErr result (FailsOrUnwritten s.history c.history) → IfErr result (MetWriting made mid last)
-            → save_fault (unless_full result) ≡ None → Undisturbed b c → IsNoted start recorded notes saved b.history.last c.history.last
+            → save_fault (unless_full result) ≡ None → Undisturbed b c → IsNoted Own start recorded notes saved b.history.last c.history.last
         ends_by mid last (Ok done) is_recorded failed why well calm = noted_ok is_recorded calm
         ends_by mid last (Err (a_change.Encode an_encode.OutOfMemory)) is_recorded failed why well calm = never_none a_save.OutOfMemory well
         ends_by mid last (Err (a_change.Encode (an_encode.TooLarge size))) is_recorded failed why well calm = noted_unfit mid last (an_encode.TooLarge size) (λ same. absurd (cc same)) why failed calm
@@ -317,20 +325,21 @@ module _ (start : History) (b s c : Course) (ours : b.history.ours ≡ true) (pa
         }
 
   -- another docket stands
-  another : (IsTrue b.history.told → docket_in (now s.history).files ≡ bytes → ⊥) → IsTrue b.history.told → AnotherStood start c.history recorded b.history.last c.history.last
+  another : (IsTrue b.history.told → docket_in (now s.history).files ≡ loaded.docket.items → ⊥) → IsTrue b.history.told → AnotherStood Own start c.history recorded b.history.last c.history.last
   another differs told =
       record {
         tried = tried told;
+        own = (start_told (goes.past.told ∙ passes.past.told ∙ told), refl);
         within = within_end told;
         found = found_end told;
         at = s.history.last;
         later = passes.past.later;
         upto = goes.past.later;
-        other = λ same. differs told (sym (ap docket_in (goes.past.stay s.history.last (omega arith)).shown) ∙ same ∙ docket_read told);
+        other = λ same. differs told (sym (ap docket_in (goes.past.stay s.history.last (omega arith)).shown) ∙ same ∙ whole_read told);
       }
 
   -- so nothing was written
-  pub held_other : (IsTrue b.history.told → docket_in (now s.history).files ≡ bytes → ⊥) → IsUnwritten b.history c.history → Holds (Ok tt)
+  pub held_other : (IsTrue b.history.told → docket_in (now s.history).files ≡ loaded.docket.items → ⊥) → IsUnwritten b.history c.history → Holds (Ok tt)
   held_other differs none = record { safe = λ calm. inl none; ends = λ well calm. inl (inl (another differs calm.told), none) }
 
 -- ---- what was asked

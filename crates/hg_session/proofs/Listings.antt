@@ -1,8 +1,8 @@
 -- What a listing behind a load says of the call up to where it ended.
-use Rattle.std.proofs.Common.{ℕ, ◌≡◌, List, [], ◌∷◌, Option, Some, IsTrue, refl, sym, ◌∙◌, subst, inl, inr, arith}
+use Rattle.std.proofs.Common.{ℕ, List, [], ◌∷◌, Option, Some, IsTrue, refl, sym, ◌∙◌, inl, inr, arith}
 use Rattle.std.proofs.lemmas.List.{append-nil}
-use Rattle.hg_compare.specs.Tracked.{ParentRow}
-use Rattle.hg_entry.specs.Table.{Table}
+use Rattle.hg_entry.specs.Table.{Table, flat_of}
+use Rattle.hg_flat.specs.Patterns.{ignored_at}
 use Rattle.hg_listing.specs.declared.fault.StatusFault.{StatusFault}
 use Rattle.hg_listing.specs.declared.fault.StatusFault.TheVariants as a_status
 use Rattle.hg_listing.specs.declared.row.Row.{Row}
@@ -12,21 +12,19 @@ use Rattle.hg_shelf.proofs.Histories.{extends_same, extends_trans}
 use Rattle.hg_save.specs.Asked.{docket_ask}
 use Rattle.hg_shelf.specs.Asks.{AsksFrontOf}
 use Rattle.hg_shelf.specs.History as shelf
-use Rattle.hg_shelf.specs.Polite.{KeepsPlain}
+use Rattle.hg_shelf.specs.Polite.{StaysPlain}
 use Rattle.hg_tree.specs.History as tree
-use Rattle.hg_session.proofs.Causes.{met_longer}
-use Rattle.hg_session.proofs.Longer.{plain_later, rows_stay}
-use Rattle.hg_session.proofs.Parents.{full_moved, served_moved}
+use Rattle.hg_session.proofs.Causes.{first_longer, met_longer}
+use Rattle.hg_session.proofs.Parents.{full_moved, left_behind, plain_later, row_later}
 use Rattle.hg_session.specs.Call.{Count, Fails, Looked, Saved, Sink}
 use Rattle.hg_session.specs.Flags.{wanted_of}
-use Rattle.hg_session.specs.Listed.{AsksBelow, AsksLittle, AsksOver, AsksPlain, IsListable, IsListedFor, IsRightFor, StatusCause, StatusMet, asking, first_parent}
+use Rattle.hg_session.specs.Listed.{AsksBelow, AsksLittle, AsksOver, AsksPlain, IsListable, IsListedFor, StatusCause, StatusMet, asking, first_parent}
 use Rattle.hg_session.specs.Loaded.{AsksRecord}
 use Rattle.hg_session.specs.Look.{IsShown, IsUntold, LeavesAt, Stage, at_first, at_printing, at_saving, at_telling}
 use Rattle.hg_session.specs.Put.{Puts}
 use Rattle.hg_session.specs.Status.{IsRowsText, IsWorked, OnlyAsksBelow, listed_to, show_look, status_look}
-use Rattle.hg_walk.specs.Right.{VouchedAreClean}
-use Rattle.hg_walk.specs.Notes.{NotesData, applied}
-use Rattle.hg_walk.specs.Walking.{IsRecorded, rows_in}
+use Rattle.hg_walk.specs.Notes.{NotesData}
+use Rattle.hg_walk.specs.Walking.{rows_in}
 use Rattle.hg_words.specs.declared.flags.StatusFlags.{StatusFlags}
 
 -- where the record alone was asked for
@@ -54,34 +52,26 @@ module _ (flags : StatusFlags) (looked : Looked) (behind : shelf.History) (n m :
   abbrev part : Looked
   part = part_of behind n m looked
 
-  right_part : IsRightFor looked table → IsRightFor part table
-  right_part right k from upto = right k (omega (arith, before.past.later, from)) upto
-
-  clean_start : IsRightFor looked table → VouchedAreClean (rows_in table (shelf.now looked.shelf.old).files) table looked.tree.old looked.tree.new
-  clean_start right =
-      subst (λ (f : shelf.Files). VouchedAreClean (rows_in table f) table looked.tree.old looked.tree.new)
-      ((after.past.stay looked.shelf.old.last before.past.later).shown ∙ (before.past.stay looked.shelf.old.last (omega arith)).shown)
-      (right looked.shelf.old.last (omega arith) (omega (arith, before.past.later, after.past.later))).clean
-
-  clean_behind : IsRightFor looked table → VouchedAreClean (rows_in table (shelf.now behind).files) table looked.tree.old looked.tree.new
-  clean_behind right =
-      subst (λ (f : shelf.Files). VouchedAreClean (rows_in table f) table looked.tree.old looked.tree.new) (after.past.stay behind.last (omega arith)).shown
-      (right behind.last before.past.later after.past.later).clean
-
   listed_for : (rows : List Row) → IsListedFor part wanted rows table → IsListedFor looked wanted rows table
-  listed_for rows is right =
-      full_moved wanted table looked.tree.old looked.tree.new looked.shelf.old behind looked.shelf.new copy.past before.past after.past rows (clean_start right) (clean_behind right) (is (right_part right))
+  listed_for rows is store right =
+      full_moved wanted table store looked.tree.old looked.tree.new looked.shelf.old behind looked.shelf.new before.past (flat_of table) (tree.now looked.tree.old) (rows_in table store) (ignored_at (tree.now looked.tree.old)) rows (is store right)
 
   listable_by : IsListable part wanted table → IsListable looked wanted table
   listable_by is = record {
     patterns = is.patterns;
-    served = served_moved wanted table looked.tree.old looked.tree.new looked.shelf.old behind looked.shelf.new copy.past before.past after.past is.served;
+    served = λ store path left. is.served store path (left_behind wanted table store looked.tree.old looked.tree.new looked.shelf.old behind looked.shelf.new before.past path left);
   }
 
   met_by : (fault : StatusFault) → StatusMet part wanted table fault → StatusMet looked wanted table fault
   met_by fault met = record {
     behind = met.behind;
     met = met_longer wanted (asking wanted table) (first_parent table) looked.tree.old looked.tree.new looked.shelf.old behind looked.shelf.new before.past fault met.met;
+    first =
+        first_longer wanted (asking wanted table) (first_parent table) looked.tree.old looked.tree.new looked.shelf.old behind looked.shelf.new before.past
+        (λ path served store other earlier left asked.
+        served store other earlier
+        (record { own = left.own; row = λ is. row_later store looked.shelf.new looked.shelf.old.last behind.last (first_parent table) other before.past.later (left.row is) }) asked)
+        fault met.first;
   }
 
   cause_by : (Fails part.shelf → Fails looked.shelf) → (fault : StatusFault) → StatusCause part wanted table fault → StatusCause looked wanted table fault
@@ -97,22 +87,15 @@ module _ (flags : StatusFlags) (looked : Looked) (behind : shelf.History) (n m :
   puts_by : (out : Sink) → Puts (IsRowsText flags part (Some table)) out → Puts (IsRowsText flags looked (Some table)) out
   puts_by out puts = record { text = puts.text; is = rows_by puts.text puts.is; put = puts.put; calm = puts.calm }
 
-  -- the plain store stays behind the load, and with it what the first parent has
-  pub plain_by : KeepsPlain looked.shelf.new looked.shelf.old.last → KeepsPlain looked.shelf.new behind.last
-  plain_by keeps = plain_later looked.shelf.new looked.shelf.old.last behind.last before.past.later after.past.later keeps
-
-  pub rows_same : KeepsPlain looked.shelf.new looked.shelf.old.last → rows_in table (shelf.now behind).files ≡ rows_in table (shelf.now looked.shelf.old).files
-  rows_same keeps =
-      let first : shelf.Extends looked.shelf.old looked.shelf.new = extends_trans looked.shelf.old behind looked.shelf.new before.past after.past in
-      (λ i. rows_in table (sym (after.past.stay behind.last (omega arith)).shown i)) ∙ rows_stay table looked.shelf.new looked.shelf.old.last behind.last before.past.later after.past.later keeps
-      ∙ (λ i. rows_in table ((first.stay looked.shelf.old.last (omega arith)).shown i))
+  -- what the plain store is over the call it is behind the load
+  pub plain_by : (store : shelf.Files) → StaysPlain store looked.shelf.new looked.shelf.old.last → StaysPlain store looked.shelf.new behind.last
+  plain_by store keeps = plain_later store looked.shelf.new looked.shelf.old.last behind.last before.past.later keeps
 
   worked_by : (notes : NotesData) → IsWorked part wanted table notes → IsWorked looked wanted table notes
   worked_by notes is = record {
     listable = listable_by is.listable;
     asked_own = is.asked_own;
-    recorded = λ own keeps.
-        subst (λ (rows : List ℕ → Option ParentRow). IsRecorded wanted rows table (tree.now looked.tree.old) (applied notes table)) (rows_same keeps) (is.recorded own (plain_by keeps));
+    recorded = λ store own keeps. is.recorded store own (plain_by store keeps);
     noted_by = λ wants. let by = is.noted_by wants in record { since = by.since; from = omega (arith, before.past.later, by.from); to = by.to; by = by.by };
   }
 

@@ -2,7 +2,7 @@
 use Rattle.std.proofs.Common.{ℕ, ◌≡◌, ◌≤◌, true, refl, sym, ap, ◌∙◌, subst, arith, inl, inr}
 use Rattle.std.proofs.lemmas.Bool.{cases_lt}
 use Rattle.hg_save.specs.Loads.{During, IsTry, Try, files_at, found_by}
-use Rattle.hg_save.specs.Record.{docket_in, id_in, reading, record_in}
+use Rattle.hg_save.specs.Record.{shown_in, id_in, reading, record_in}
 use Rattle.hg_save.specs.Saved.{IsLatest, name_after, used_in}
 use Rattle.hg_save.specs.Behind.{IsSolid}
 use Rattle.hg_session.specs.Change.{FailsOrUnwritten, IsUnwritten, NoneOurs}
@@ -70,8 +70,8 @@ module _ (a b c : Course) (ours : a.history.ours ≡ true) (passes : Passes a.hi
   front_found tried within = λ i. record_in (front_files tried.docket within.docket i) (front_files tried.file within.file i)
 
   -- and its docket is the one that stands
-  pub front_docket : (tried : Try) → IsTry a.history b.history tried → docket_in (last_scene b).files ≡ docket_in (files_at b.history tried.docket)
-  front_docket tried within = ap docket_in (end_remains.shown ∙ sym (front_files tried.docket within.docket))
+  pub front_docket : (tried : Try) → IsTry a.history b.history tried → shown_in (last_scene b).files ≡ shown_in (files_at b.history tried.docket)
+  front_docket tried within = ap shown_in (end_remains.shown ∙ sym (front_files tried.docket within.docket))
 
   -- no docket that a crash may leave names an identifier ahead of the one that stands
   pub front_latest : IsLatest (scene c a.history.last) → IsLatest (last_scene b)

@@ -1,14 +1,15 @@
 -- What a listing did up to where it ended is so over the whole call, behind which times are saved.
-use Rattle.std.proofs.Common.{ℕ, ◌≡◌, ◌≤◌, List, map, Option, Some, None, Result, Ok, Err, IsTrue, IfSome, sym, ap, ◌∙◌, subst, inl, inr, arith}
-use Rattle.std.specs.Prelude.{IsSomeAnd, is_some}
+use Rattle.std.proofs.Common.{ℕ, ◌≡◌, ◌≤◌, List, map, Option, Some, None, Result, Ok, Err, IsTrue, IfSome, refl, sym, ap, ◌∙◌, subst, inl, inr, arith}
+use Rattle.std.specs.Prelude.{IsSomeAnd}
 use Rattle.hg_base.specs.declared.id.Id20.{Id20}
 use Rattle.hg_base.specs.declared.stat.Stat.{Stat}
 use Rattle.hg_compare.specs.Alike.{contents_name, is_alike}
-use Rattle.hg_compare.specs.Tracked.{ParentRow, tracked_letter}
-use Rattle.hg_compare.specs.declared.letter.Letter.TheVariants as a_letter
-use Rattle.hg_entry.specs.Table.{Table, marks_of}
+use Rattle.hg_compare.specs.Tracked.{ParentRow}
+use Rattle.hg_entry.specs.Table.{Table}
+use Rattle.hg_flat.specs.First.{AreServedBefore, LacksAt, MetFirst}
 use Rattle.hg_flat.specs.Met.{LacksContents, Met, Shows, Status, WasRead}
-use Rattle.hg_flat.specs.Parent.{IsAsked, KeepsRow, manifest_at, row_among}
+use Rattle.hg_flat.proofs.Tracking.{row_earlier, stays_earlier}
+use Rattle.hg_flat.specs.Parent.{IsAsked}
 use Rattle.hg_listing.specs.declared.fault.StatusFault.{StatusFault}
 use Rattle.hg_listing.specs.declared.fault.StatusFault.TheVariants as a_status
 use Rattle.hg_listing.specs.declared.row.Row.{Row}
@@ -18,17 +19,16 @@ use Rattle.hg_manifest.specs.Plain.{plain_name}
 use Rattle.hg_manifest.specs.Rows.{Rows}
 use Rattle.hg_manifest.specs.declared.fault.ManifestFault.{ManifestFault}
 use Rattle.hg_manifest.specs.declared.fault.ManifestFault.TheVariants as a_manifest
-use Rattle.hg_manifest.specs.declared.row.FileRow.{FileRow}
 use Rattle.hg_report.specs.declared.fault.Fault.{Fault}
 use Rattle.hg_save.proofs.Loads.{found_longer, tries_longer}
-use Rattle.hg_save.specs.Loads.{found_by, id_by}
+use Rattle.hg_save.specs.Loads.{Try, found_by, id_by}
 use Rattle.hg_shelf.specs.History as shelf
 use Rattle.hg_shelf.specs.History.{Extends, Files, History, IsOurs}
-use Rattle.hg_shelf.specs.Polite.{KeepsFile, KeepsPlain}
+use Rattle.hg_shelf.specs.Polite.{KeepsPlain, StaysPlain}
 use Rattle.hg_shelf.specs.Reads.{size_of}
 use Rattle.hg_tree.specs.History as tree
 use Rattle.hg_tree.specs.Moment.{Moment, stat_at}
-use Rattle.hg_session.proofs.Parents.{row_plain, rows_same}
+use Rattle.hg_session.proofs.Parents.{rows_alike}
 use Rattle.hg_session.proofs.Readings.{read_longer}
 use Rattle.hg_session.proofs.Widening.{ids_longer}
 use Rattle.hg_session.proofs.Locked.{unwritten}
@@ -39,7 +39,7 @@ use Rattle.hg_session.specs.Listed.{IsListable, IsListedFor, IsOwn, IsRightFor, 
 use Rattle.hg_session.specs.Loaded.{IsLoaded, IsRefused, LoadMet, MetReading}
 use Rattle.hg_session.specs.Look.{Concludes, IsShown, LeavesAt, Stage, at_first, at_printing, at_saving, at_telling}
 use Rattle.hg_session.specs.Put.{Puts, PutsFront, Tells}
-use Rattle.hg_session.specs.Status.{IsLoadedFirst, IsRowsText, IsWorked, ListingCause, listed_to, status_look}
+use Rattle.hg_session.specs.Status.{ByLoaded, ByLoadedFirst, IsLoadedFirst, IsRowsText, IsWorked, ListingCause, listed_to, status_look}
 use Rattle.hg_session.specs.declared.read_fault.ReadFault.{ReadFault}
 use Rattle.hg_session.specs.declared.read_fault.ReadFault.TheVariants as a_read
 use Rattle.hg_walk.specs.Right.{AreRight}
@@ -47,42 +47,19 @@ use Rattle.hg_walk.specs.Notes.{NotesData}
 use Rattle.hg_walk.specs.Walking.{AreNotedBy, first_id, rows_in}
 use Rattle.hg_words.specs.declared.flags.StatusFlags.{StatusFlags}
 
--- ---- files that stay over a call stay over its first part
+-- ---- files that are a store's over a call are so over its first part
 
 module _ (mid new : History) (later : Extends mid new) where
-  file_shorter : (from : ℕ) (name : List ℕ) → from ≤ mid.last → KeepsFile new from name → KeepsFile mid from name
-  file_shorter from name begun keeps k after upto =
-      ap (λ (f : Files). f name) (sym (later.stay k upto).shown) ∙ keeps k after (omega (arith, upto, later.later)) ∙ ap (λ (f : Files). f name) (later.stay from begun).shown
-
-  pub plain_shorter : (from : ℕ) → from ≤ mid.last → KeepsPlain new from → KeepsPlain mid from
-  plain_shorter from begun keeps = record { told = sym later.told ∙ keeps.told; each = λ name plain. file_shorter from name begun (keeps.each name plain) }
-
-  row_shorter : (from : ℕ) (id : Id20) (path : List ℕ) → from ≤ mid.last → KeepsRow new from id path → KeepsRow mid from id path
-  row_shorter from id path begun keeps = record {
-    told = sym later.told ∙ keeps.told;
-    manifest = λ committed. file_shorter from (plain_name id.0) begun (keeps.manifest committed);
-    contents =
-        each (row_among (manifest_at (mid.at from).files id) path)
-        (subst (λ (f : Files). IfSome (row_among (manifest_at f id) path) (λ row. KeepsFile new from (contents_name row.id.0))) (later.stay from begun).shown keeps.contents);
-  }
-    where
-      each : (o : Option FileRow) → IfSome o (λ row. KeepsFile new from (contents_name row.id.0)) → IfSome o (λ row. KeepsFile mid from (contents_name row.id.0))
-      each None is = tt
-      each (Some row) is = file_shorter from (contents_name row.id.0) begun is
+  pub plain_shorter : (store : Files) (from : ℕ) → StaysPlain store new from → StaysPlain store mid from
+  plain_shorter store from keeps = record { told = sym later.told ∙ keeps.told; each = λ name plain. stays_earlier store mid new from name later (keeps.each name plain) }
 
   pub ours_shorter : (old : History) → IsOurs old new → IsOurs old mid
   ours_shorter old own = record { told = own.told; ours = λ k from to. sym (later.who k to) ∙ own.ours k from (omega (arith, to, later.later)) }
 
 -- ---- where the plain store stays, what the first parent has of each path does
 
-pub plain_later : (h : History) (since behind : ℕ) → since ≤ behind → behind ≤ h.last → KeepsPlain h since → KeepsPlain h behind
-plain_later h since behind order within keeps = record {
-  told = keeps.told;
-  each = λ name plain k from upto. keeps.each name plain k (omega (arith, order, from)) upto ∙ sym (keeps.each name plain behind order within);
-}
-
 pub rows_stay : (table : Table) (h : History) (since k : ℕ) → since ≤ k → k ≤ h.last → KeepsPlain h since → rows_in table (h.at k).files ≡ rows_in table (h.at since).files
-rows_stay table h since k from upto keeps = λ i path. rows_same h since k (record { 0 = table.p1 }) path from upto (row_plain h since (record { 0 = table.p1 }) path keeps) i
+rows_stay table h since k from upto keeps = λ i path. rows_alike (h.at k).files (h.at since).files (first_id table) path (λ name plain. keeps.each name plain k from upto) i
 
 -- where recorded times are right by the rows of the call's start and the plain store stays, they are right over the call
 pub right_by_start : (looked : Looked) (table : Table) → Extends looked.shelf.old looked.shelf.new → KeepsPlain looked.shelf.new looked.shelf.old.last
@@ -91,11 +68,18 @@ right_by_start looked table past keeps right k from upto =
     subst (λ (rows : List ℕ → Option ParentRow). AreRight rows table looked.tree.old looked.tree.new)
     (ap (rows_in table) (sym (past.stay looked.shelf.old.last (omega arith)).shown) ∙ sym (rows_stay table looked.shelf.new looked.shelf.old.last k from upto keeps)) right
 
+-- so they are where they are right by the rows of its end
+pub right_by_end : (looked : Looked) (table : Table) → looked.shelf.old.last ≤ looked.shelf.new.last → KeepsPlain looked.shelf.new looked.shelf.old.last
+    → AreRight (rows_in table (looked.shelf.new.at looked.shelf.new.last).files) table looked.tree.old looked.tree.new → IsRightFor looked table
+right_by_end looked table order keeps right k from upto =
+    subst (λ (rows : List ℕ → Option ParentRow). AreRight rows table looked.tree.old looked.tree.new)
+    (rows_stay table looked.shelf.new looked.shelf.old.last looked.shelf.new.last order (omega arith) keeps ∙ sym (rows_stay table looked.shelf.new looked.shelf.old.last k from upto keeps)) right
+
 -- ---- what was noted path by path
 
 -- over a longer history of the files below `.hg`
-module _ (wanted : Wanted) (table : Table) (notes : NotesData) (tree_old tree_new : tree.History) (end new : History) (later : Extends end new) (since : ℕ) (within : since ≤ end.last) where
-  pub noted_later : AreNotedBy wanted (rows_in table (end.at since).files) table tree_old tree_new end since notes → AreNotedBy wanted (rows_in table (new.at since).files) table tree_old tree_new new since notes
+module _ (wanted : Wanted) (table : Table) (notes : NotesData) (tree_old tree_new : tree.History) (end new : History) (later : Extends end new) (since : ℕ) where
+  pub noted_later : AreNotedBy wanted table tree_old tree_new end since notes → AreNotedBy wanted table tree_old tree_new new since notes
   noted_later by = record {
     boundary = by.boundary;
     at = by.at;
@@ -104,11 +88,9 @@ module _ (wanted : Wanted) (table : Table) (notes : NotesData) (tree_old tree_ne
     clock = by.clock;
     stamp = by.stamp;
     shown = by.shown;
-    vouched = λ told path entry stat left there looks letter time.
-        by.vouched told path entry stat
-        (record { own = left.own; row = λ asked. row_shorter end new later since (first_id table) path within (left.row asked); patterns = left.patterns }) there looks
-        (subst (λ (f : Files). tracked_letter (rows_in table f path) (marks_of entry) (is_some (table.sources path)) ((tree.now tree_old).things path) ≡ Some a_letter.C) (later.stay since within).shown letter)
-        time;
+    vouched = λ store told path entry stat left.
+        by.vouched store told path entry stat
+        (record { own = left.own; row = λ asked. row_earlier store end new since (first_id table) path later (left.row asked); patterns = left.patterns });
   }
 
 -- ---- faults
@@ -144,19 +126,22 @@ module _ (wanted : Wanted) (table : Table) (looked : Looked) (end : History) (la
   shows_whole : (P : Moment → Type 0) → Shows part P → Shows whole P
   shows_whole P shows = record { at = shows.at; from = shows.from; to = shows.to; so = shows.so }
 
-  lacks_whole : (gone : Id20) → LacksContents part gone → LacksContents whole gone
-  lacks_whole gone lacks = record {
-    path = lacks.path;
-    asked = lacks.asked;
-    rows = lacks.rows;
-    read = read_whole (Ok lacks.rows) lacks.read;
-    row = lacks.row;
-    is = lacks.is;
-    names = lacks.names;
-    alike = shows_whole (λ moment. IsAsked part.asks moment lacks.path × (stat : Stat) × (stat_at moment lacks.path ≡ Some stat) × IsTrue (is_alike lacks.row stat)) lacks.alike;
-    absent = was_longer (contents_name gone.0) (λ file. file ≡ None) lacks.absent;
-    committed = lacks.committed;
-  }
+  lacks_whole : (gone : Id20) (lacks : LacksContents part gone) → LacksAt whole lacks.path gone
+  lacks_whole gone lacks = (
+    record {
+      path = lacks.path;
+      asked = lacks.asked;
+      rows = lacks.rows;
+      read = read_whole (Ok lacks.rows) lacks.read;
+      row = lacks.row;
+      is = lacks.is;
+      names = lacks.names;
+      alike = shows_whole (λ moment. IsAsked part.asks moment lacks.path × (stat : Stat) × (stat_at moment lacks.path ≡ Some stat) × IsTrue (is_alike lacks.row stat)) lacks.alike;
+      absent = was_longer (contents_name gone.0) (λ file. file ≡ None) lacks.absent;
+      committed = lacks.committed;
+    },
+    refl,
+  )
 
   met_whole : (fault : StatusFault) → Met part fault → Met whole fault
   met_whole a_status.OutOfMemory met = tt
@@ -170,7 +155,7 @@ module _ (wanted : Wanted) (table : Table) (looked : Looked) (end : History) (la
       (record { path = met.0.path; asked = met.0.asked; committed = met.0.committed }, read_whole (Err (a_manifest.ManifestLine line)) met.1)
   met_whole (a_status.ManifestOrder line) met =
       (record { path = met.0.path; asked = met.0.asked; committed = met.0.committed }, read_whole (Err (a_manifest.ManifestOrder line)) met.1)
-  met_whole (a_status.NoContents gone) met = lacks_whole gone met
+  met_whole (a_status.NoContents gone) met = (lacks_whole gone met).0
   met_whole (a_status.IgnoreTooLarge size) met = met
   met_whole (a_status.IgnoreText at) met = met
   met_whole (a_status.BadGlob line) met = met
@@ -178,8 +163,28 @@ module _ (wanted : Wanted) (table : Table) (looked : Looked) (end : History) (la
   met_whole (a_status.RegexpTooBig line) met = met
   met_whole (a_status.BadInclude line) met = met
 
+  before_whole : (path : List ℕ) → AreServedBefore part path → AreServedBefore whole path
+  before_whole path served store other earlier left asked =
+      served store other earlier (record { own = left.own; row = λ is. row_earlier store end looked.shelf.new looked.shelf.old.last part.id other later (left.row is) }) asked
+
+  met_first : (fault : StatusFault) → MetFirst part fault → MetFirst whole fault
+  met_first a_status.OutOfMemory met = tt
+  met_first a_status.TreeFailed met = tt
+  met_first a_status.ShelfFailed met = tt
+  met_first (a_status.NoManifest gone) met = tt
+  met_first (a_status.ManifestTooLarge size) met = tt
+  met_first (a_status.ManifestLine line) met = tt
+  met_first (a_status.ManifestOrder line) met = tt
+  met_first (a_status.NoContents gone) met = let at = lacks_whole gone met.lacks in record { lacks = at.0; before = subst (AreServedBefore whole) (sym at.1) (before_whole met.lacks.path met.before) }
+  met_first (a_status.IgnoreTooLarge size) met = tt
+  met_first (a_status.IgnoreText at) met = tt
+  met_first (a_status.BadGlob line) met = tt
+  met_first (a_status.BadRegexp line) met = tt
+  met_first (a_status.RegexpTooBig line) met = tt
+  met_first (a_status.BadInclude line) met = tt
+
   status_whole : (fault : StatusFault) → StatusMet listed wanted table fault → StatusMet looked wanted table fault
-  status_whole fault met = record { behind = met.behind; met = met_whole fault met.met }
+  status_whole fault met = record { behind = met.behind; met = met_whole fault met.met; first = met_first fault met.first }
 
   cause_whole : (fault : StatusFault) → StatusCause listed wanted table fault → StatusCause looked wanted table fault
   cause_whole a_status.OutOfMemory cause = tt
@@ -195,31 +200,31 @@ module _ (wanted : Wanted) (table : Table) (looked : Looked) (end : History) (la
       subst (λ (f : Files). AreRight (rows_in table f) table looked.tree.old looked.tree.new) (later.stay k upto).shown (right k from (omega (arith, upto, later.later)))
 
   module _ (first : Extends looked.shelf.old end) where
-    untouched_listed : (path : List ℕ) → IsUntouched looked wanted table path → IsUntouched listed wanted table path
-    untouched_listed path left = record {
+    untouched_listed : (store : Files) (path : List ℕ) → IsUntouched store looked wanted table path → IsUntouched store listed wanted table path
+    untouched_listed store path left = record {
       own = left.own;
-      row = λ asked. row_shorter end looked.shelf.new later looked.shelf.old.last part.id path first.later (left.row asked);
+      row = λ asked. row_earlier store end looked.shelf.new looked.shelf.old.last part.id path later (left.row asked);
       patterns = left.patterns;
     }
 
     listed_whole : (rows : List Row) → IsListedFor listed wanted rows table → IsListedFor looked wanted rows table
-    listed_whole rows is right =
-        let full = is (right_listed right) in
+    listed_whole rows is store right =
+        let full = is store right in
         record {
-          sound = λ row has left. full.sound row has (untouched_listed row.path left);
-          all = λ row left. full.all row (untouched_listed row.path left);
+          sound = λ row has left. full.sound row has (untouched_listed store row.path left);
+          all = λ row left. full.all row (untouched_listed store row.path left);
           once = full.once;
           ascending = full.ascending;
         }
 
     listable_whole : IsListable listed wanted table → IsListable looked wanted table
-    listable_whole is = record { patterns = is.patterns; served = λ path left. is.served path (untouched_listed path left) }
+    listable_whole is = record { patterns = is.patterns; served = λ store path left. is.served store path (untouched_listed store path left) }
 
 -- ---- all of it
 
 module _ (flags : StatusFlags) (looked : Looked) (saved : Saved) (locks : Count) (table : Option Table) (end : History) (first : Extends looked.shelf.old end) (later : Extends end looked.shelf.new) where
   -- what was read up to where the listing ended was read before the caller made a step
-  first_whole : shelf.Passes looked.shelf.old end → (t : Table) → IsLoaded (listed_to end looked).shelf t → IsLoadedFirst looked.shelf t
+  abbrev first_whole : shelf.Passes looked.shelf.old end → (t : Table) → IsLoaded (listed_to end looked).shelf t → IsLoadedFirst looked.shelf t
   first_whole passes t is told = record {
     upto = end.last;
     later = first.later;
@@ -228,12 +233,22 @@ module _ (flags : StatusFlags) (looked : Looked) (saved : Saved) (locks : Count)
     read = read_longer looked.shelf.old end (up_to end.last looked.shelf.new) t (record { told = later.told; later = omega arith; who = later.who; stay = later.stay }) (is told);
   }
 
-  pub loaded_whole : shelf.Passes looked.shelf.old end → IfSome table (IsLoaded (listed_to end looked).shelf) → IfSome table (IsLoadedFirst looked.shelf)
-  loaded_whole passes = by_table table
+  abbrev first_some : shelf.Passes looked.shelf.old end → (o : Option Table) → IfSome o (IsLoaded (listed_to end looked).shelf) → IfSome o (IsLoadedFirst looked.shelf)
+  first_some passes None is = tt
+  first_some passes (Some t) is = first_whole passes t is
+
+  abbrev pub loaded_whole : shelf.Passes looked.shelf.old end → IfSome table (IsLoaded (listed_to end looked).shelf) → IfSome table (IsLoadedFirst looked.shelf)
+  loaded_whole passes = first_some passes table
+
+  -- by the same try
+  pub own_whole : (passes : shelf.Passes looked.shelf.old end) (loaded : IfSome table (IsLoaded (listed_to end looked).shelf)) (tried : Try) → ByLoaded (listed_to end looked).shelf table loaded tried
+      → ByLoadedFirst looked.shelf table (loaded_whole passes loaded) tried
+  own_whole passes = by_table table
     where
-      by_table : (o : Option Table) → IfSome o (IsLoaded (listed_to end looked).shelf) → IfSome o (IsLoadedFirst looked.shelf)
-      by_table None is = tt
-      by_table (Some t) is = first_whole passes t is
+      by_table : (o : Option Table) (loaded : IfSome o (IsLoaded (listed_to end looked).shelf)) (tried : Try) → ByLoaded (listed_to end looked).shelf o loaded tried
+          → ByLoadedFirst looked.shelf o (first_some passes o loaded) tried
+      by_table None loaded tried never = absurd never
+      by_table (Some t) loaded tried same = same
 
   refused_whole : (fault : ReadFault) → LoadMet fault (listed_to end looked).shelf → LoadMet fault looked.shelf
   refused_whole fault met told =
@@ -281,14 +296,14 @@ module _ (flags : StatusFlags) (looked : Looked) (saved : Saved) (locks : Count)
   worked_whole notes t is = record {
     listable = listable_whole (wanted_of flags) t looked end later first is.listable;
     asked_own = is.asked_own;
-    recorded = λ own keeps. is.recorded own (plain_shorter end looked.shelf.new later looked.shelf.old.last first.later keeps);
+    recorded = λ store own keeps. is.recorded store own (plain_shorter end looked.shelf.new later store looked.shelf.old.last keeps);
     noted_by = λ wants.
         let by = is.noted_by wants in
         record {
           since = by.since;
           from = by.from;
           to = omega (arith, by.to, later.later);
-          by = noted_later (wanted_of flags) t notes looked.tree.old looked.tree.new end looked.shelf.new later by.since by.to by.by;
+          by = noted_later (wanted_of flags) t notes looked.tree.old looked.tree.new end looked.shelf.new later by.since by.by;
         };
   }
 

@@ -1,19 +1,24 @@
 -- New parents, from the loads of their manifests.
-use Rattle.std.proofs.Common.{ℕ, suc, ◌≡◌, Bool, true, false, List, [], ◌∷◌, ◌++◌, take, Ok, Err, refl, ap, ◌∙◌, inl, inr, arith}
+use Rattle.std.proofs.Common.{ℕ, suc, ◌≡◌, Bool, true, false, List, [], ◌∷◌, ◌++◌, take, Result, Ok, Err, refl, ap, ◌∙◌, inl, inr, arith}
 use Rattle.std.specs.Prelude.{MatchBool}
 use Rattle.std.proofs.lemmas.List.{append_assoc}
 use Rattle.hg_base.specs.Fault.{HasCause}
 use Rattle.hg_base.specs.declared.id.Id20.{Id20}
+use Rattle.hg_manifest.specs.Load.{AsksByFile, asks_of, file_at}
+use Rattle.hg_manifest.specs.Plain.{plain_name}
 use Rattle.hg_manifest.specs.Rows.{Rows}
 use Rattle.hg_manifest.specs.declared.fault.ManifestFault.{ManifestFault}
 use Rattle.hg_manifest.specs.declared.fault.ManifestFault.TheVariants as a_manifest
+use Rattle.hg_manifest.proofs.Loads.{was_now}
 use Rattle.hg_ops.specs.Cause.{of_manifest}
 use Rattle.hg_ops.specs.declared.refusal.OpFault.TheVariants as an_op
+use Rattle.hg_ops.proofs.ReadParent.{was_later, was_longer}
 use Rattle.hg_session.specs.Call.{Watched}
-use Rattle.hg_session.specs.Manifests.{LoadsRows, StopsParents}
+use Rattle.hg_session.specs.Manifests.{AsksManifests, LoadsRows, StopsParents}
 use Rattle.hg_shelf.specs.Asks.{AsksFrontOf}
-use Rattle.hg_shelf.specs.History.{History}
+use Rattle.hg_shelf.specs.History.{History, Passes}
 use Rattle.hg_shelf.specs.declared.asked.Asked.{Asked}
+use Rattle.hg_shelf.proofs.Asks.{front_longer, order_front}
 
 pub by_test : (A B : Type 0) (b : Bool) → (b ≡ true → A) → (b ≡ false → B) → MatchBool b A B
 by_test A B true first second = first refl
@@ -70,7 +75,7 @@ front_both : (some more : List Asked) (n : ℕ) → (m : ℕ) × (some ++ take n
 front_both [] more n = (n, refl)
 front_both (ask ∷ some) more n = let rest = front_both some more n in (suc rest.0, ap (λ (l : List Asked). ask ∷ l) rest.1)
 
-pub front_behind : (some more : List Asked) (a b c : History) → b.asked ≡ a.asked ++ some → AsksFrontOf more b c → AsksFrontOf (some ++ more) a c
+front_behind : (some more : List Asked) (a b c : History) → b.asked ≡ a.asked ++ some → AsksFrontOf more b c → AsksFrontOf (some ++ more) a c
 front_behind some more a b c first rest =
     let both = front_both some more rest.some in
     record {
@@ -79,3 +84,26 @@ front_behind some more a b c first rest =
           rest.made ∙ ap (λ (l : List Asked). l ++ take rest.some more) first ∙ append_assoc a.asked some (take rest.some more)
           ∙ ap (λ (l : List Asked). a.asked ++ l) both.1;
     }
+
+abbrev AsksRows : Id20 → History → History → Result Rows ManifestFault → Type 0
+AsksRows id old new result = AsksByFile (plain_name id.0) (asks_of id) old new result
+
+-- the first alone
+pub asks_first : (p1 p2 : Id20) (old new : History) (fault : ManifestFault) → Passes old new → AsksRows p1 old new (Err fault) → AsksManifests p1 p2 old new
+asks_first p1 p2 old new fault passes by = record {
+  first = by.file;
+  second = file_at new (plain_name p2.0) new.last;
+  first_was = by.was;
+  second_was = was_now old new (plain_name p2.0) passes;
+  asks = front_longer (asks_of p1 by.file) (asks_of p2 (file_at new (plain_name p2.0) new.last)) old new by.asks;
+}
+
+-- the second too
+pub asks_second : (p1 p2 : Id20) (old mid new : History) (m1 : Rows) (result : Result Rows ManifestFault) → Passes old mid → Passes mid new → AsksRows p1 old mid (Ok m1) → AsksRows p2 mid new result → AsksManifests p1 p2 old new
+asks_second p1 p2 old mid new m1 result passes later by also = record {
+  first = by.file;
+  second = also.file;
+  first_was = was_longer old mid new (plain_name p1.0) (λ f. f ≡ by.file) passes later by.was;
+  second_was = was_later old mid new (plain_name p2.0) (λ f. f ≡ also.file) passes also.was;
+  asks = front_behind (asks_of p1 by.file) (asks_of p2 also.file) old mid new by.asks (order_front (asks_of p2 also.file) mid new result also.asks);
+}

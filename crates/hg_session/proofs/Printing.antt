@@ -2,12 +2,13 @@
 use Rattle.std.proofs.Common.{ℕ, ◌≡◌, ◌<◌, ◌⊎◌, Bool, true, false, List, [], Option, Some, None, Result, Ok, Err, IfErr, IfOk, IsTrue, OnOk, refl, sym, ap, ◌∙◌, subst, inl, inr, arith, true≢false}
 use Rattle.std.specs.Prelude.{MatchBool}
 use Rattle.hg_compare.specs.Tracked.{ParentRow}
-use Rattle.hg_entry.specs.Table.{Table, flat_of}
+use Rattle.hg_entry.specs.Table.{Table}
 use Rattle.hg_flat.specs.Met.{Met}
-use Rattle.hg_flat.specs.Patterns.{CountsOversize, HadPatterns, Warns, ignored_at, is_of_parent}
+use Rattle.hg_flat.specs.Patterns.{CountsOversize, HadPatterns, Warns, is_of_parent}
+use Rattle.hg_flat.specs.First.{MetFirst}
+use Rattle.hg_flat.specs.Needed.{AsksNeeded}
 use Rattle.hg_ignore.specs.Patterns.{WereRead}
 use Rattle.hg_ignore.specs.declared.warnings.Warning.{Warning}
-use Rattle.hg_listing.specs.Full.{IsFullFor}
 use Rattle.hg_listing.specs.declared.fault.StatusFault.{StatusFault}
 use Rattle.hg_listing.specs.declared.fault.StatusFault.TheVariants as a_status
 use Rattle.hg_listing.specs.declared.row.Row.{Row}
@@ -24,11 +25,10 @@ use Rattle.hg_tree.specs.History as tree
 use Rattle.hg_tree.specs.Moment.{zero_time}
 use Rattle.hg_session.specs.Call.{Fails, Looked, Sink}
 use Rattle.hg_session.specs.Flags.{style_of, wanted_of}
-use Rattle.hg_session.specs.Listed.{AsksOver, AsksOwn, AsksPlain, IsListedFor, IsRightFor, IsServedFor, IsUntouched, StatusCause, StatusMet, status_over}
+use Rattle.hg_session.specs.Listed.{AsksOver, AsksOwn, AsksPlain, IsListedFor, IsServedFor, StatusCause, StatusMet, status_over}
 use Rattle.hg_session.specs.Look.{at_first, at_printing, at_telling}
 use Rattle.hg_session.specs.Put.{IsSilent, is_stream}
 use Rattle.hg_session.specs.Status.{IsNotedBy, IsNotedByFor, IsNotedFor, IsRecordedFor, IsWorked, ShowsTable}
-use Rattle.hg_walk.specs.Right.{AreRight}
 use Rattle.hg_walk.specs.Notes.{AreEarned, NotesData}
 use Rattle.hg_walk.specs.Walking.{AreNeeded, AreNoted, AreNotedBy, rows_in}
 use Rattle.hg_walk.specs.declared.walked.Walked.{Walked}
@@ -36,12 +36,12 @@ use Rattle.hg_words.specs.declared.flags.StatusFlags.{StatusFlags}
 
 -- what a walk noted path by path, from its start on
 pub noted_at : (looked : Looked) (wanted : Wanted) (t : Table) (notes : NotesData) → shelf.Passes looked.shelf.old looked.shelf.new
-    → AreNotedBy wanted (rows_in t (shelf.now looked.shelf.old).files) t looked.tree.old looked.tree.new looked.shelf.new looked.shelf.old.last notes → IsNotedBy looked wanted t notes
+    → AreNotedBy wanted t looked.tree.old looked.tree.new looked.shelf.new looked.shelf.old.last notes → IsNotedBy looked wanted t notes
 noted_at looked wanted t notes files by = record {
   since = looked.shelf.old.last;
   from = omega arith;
   to = files.past.later;
-  by = subst (λ (f : shelf.Files). AreNotedBy wanted (rows_in t f) t looked.tree.old looked.tree.new looked.shelf.new looked.shelf.old.last notes) (sym (files.past.stay looked.shelf.old.last (omega arith)).shown) by;
+  by = by;
 }
 
 -- warnings that were read say that the patterns were
@@ -72,7 +72,7 @@ none_noted_for : (looked : Looked) (t : Table) → IsNotedFor looked t no_notes
 none_noted_for looked t = record {
   needed = none_needed t;
   noted = none_noted looked.tree.old looked.tree.new;
-  earned = λ honest told keeps. none_earned (rows_in t (shelf.now looked.shelf.old).files) t looked.tree.new;
+  earned = λ store honest told keeps. none_earned (rows_in t store) t looked.tree.new;
 }
 
 -- ---- a walk over a table
@@ -86,6 +86,7 @@ pub record Walks (looked : Looked) (wanted : Wanted) (table : Table) (result : R
   pub cause : IfErr result (StatusCause looked wanted table)
   pub asked : IsTrue looked.tree.old.told → AsksOver table wanted looked.tree
   pub store : IsTrue looked.shelf.old.told → AsksPlain looked wanted table looked.shelf.old looked.shelf.new
+  pub reads : IsTrue looked.tree.old.told → AsksNeeded (status_over looked wanted table)
   pub calm_tree : OnOk result (looked.tree.after ≡ looked.tree.before)
   pub calm_shelf : OnOk result (looked.shelf.after ≡ looked.shelf.before)
   pub calm_regexps : OnOk result (looked.oversize.after ≡ looked.oversize.before)
@@ -93,29 +94,23 @@ pub record Walks (looked : Looked) (wanted : Wanted) (table : Table) (result : R
   pub noted : IfOk result (λ walked. IsNotedFor looked table walked.notes)
 
 module _ (looked : Looked) (wanted : Wanted) (table : Table) where
-  -- where times are right over the call, they are by the rows at its start
-  pub right_now : shelf.Passes looked.shelf.old looked.shelf.new → IsRightFor looked table → AreRight (rows_in table (shelf.now looked.shelf.old).files) table looked.tree.old looked.tree.new
-  right_now passes right =
-      subst (λ (f : shelf.Files). AreRight (rows_in table f) table looked.tree.old looked.tree.new) (passes.past.stay looked.shelf.old.last (omega arith)).shown
-      (right looked.shelf.old.last (omega arith) passes.past.later)
-
   -- a fault of the first parent was met behind patterns that were fine
   abbrev Behind : StatusFault → Type 0
   Behind fault = is_of_parent fault ≡ true → HadPatterns wanted looked.tree.old looked.tree.new
 
-  met_here : (fault : StatusFault) → Behind fault → Met (status_over looked wanted table) fault → StatusMet looked wanted table fault
-  met_here fault patterns met = record { behind = patterns; met = met }
+  met_here : (fault : StatusFault) → Behind fault → Met (status_over looked wanted table) fault → MetFirst (status_over looked wanted table) fault → StatusMet looked wanted table fault
+  met_here fault patterns met first = record { behind = patterns; met = met; first = first }
 
   pub cause_of : (fault : StatusFault) → Behind fault → (fault ≡ a_status.TreeFailed → Fails looked.tree) → (fault ≡ a_status.ShelfFailed → Fails looked.shelf)
-      → CountsOversize {T = Walked} looked.oversize.before looked.oversize.after (Err fault) → Met (status_over looked wanted table) fault → StatusCause looked wanted table fault
-  cause_of a_status.OutOfMemory patterns tree_failed shelf_failed counts met = tt
-  cause_of a_status.TreeFailed patterns tree_failed shelf_failed counts met = tree_failed refl
-  cause_of a_status.ShelfFailed patterns tree_failed shelf_failed counts met = shelf_failed refl
-  cause_of (a_status.RegexpTooBig line) patterns tree_failed shelf_failed counts met = (met_here (a_status.RegexpTooBig line) patterns met, counts.1)
-  cause_of fault patterns tree_failed shelf_failed counts met = met_here fault patterns met
+      → CountsOversize {T = Walked} looked.oversize.before looked.oversize.after (Err fault) → Met (status_over looked wanted table) fault → MetFirst (status_over looked wanted table) fault → StatusCause looked wanted table fault
+  cause_of a_status.OutOfMemory patterns tree_failed shelf_failed counts met first = tt
+  cause_of a_status.TreeFailed patterns tree_failed shelf_failed counts met first = tree_failed refl
+  cause_of a_status.ShelfFailed patterns tree_failed shelf_failed counts met first = shelf_failed refl
+  cause_of (a_status.RegexpTooBig line) patterns tree_failed shelf_failed counts met first = (met_here (a_status.RegexpTooBig line) patterns met first, counts.1)
+  cause_of fault patterns tree_failed shelf_failed counts met first = met_here fault patterns met first
 
   module _ (copy : tree.Passes looked.tree.old looked.tree.new) (files : shelf.Passes looked.shelf.old looked.shelf.new) (asked : IsTrue looked.tree.old.told → AsksOver table wanted looked.tree)
-      (store : IsTrue looked.shelf.old.told → AsksPlain looked wanted table looked.shelf.old looked.shelf.new) where
+      (store : IsTrue looked.shelf.old.told → AsksPlain looked wanted table looked.shelf.old looked.shelf.new) (reads : IsTrue looked.tree.old.told → AsksNeeded (status_over looked wanted table)) where
     pub walks_err : (fault : StatusFault) → StatusCause looked wanted table fault → (fault ≡ a_status.TreeFailed) ⊎ (looked.tree.after ≡ looked.tree.before) → Walks looked wanted table (Err fault)
     walks_err fault cause stayed = record {
       tree = copy;
@@ -125,6 +120,7 @@ module _ (looked : Looked) (wanted : Wanted) (table : Table) where
       cause = cause;
       asked = asked;
       store = store;
+      reads = reads;
       calm_tree = tt;
       calm_shelf = tt;
       calm_regexps = tt;
@@ -133,14 +129,12 @@ module _ (looked : Looked) (wanted : Wanted) (table : Table) where
     }
 
     pub walks_ok : (walked : Walked)
-        → (AreRight (rows_in table (shelf.now looked.shelf.old).files) table looked.tree.old looked.tree.new
-        → IsFullFor (IsUntouched looked wanted table) (flat_of table) (tree.now looked.tree.old) (rows_in table (shelf.now looked.shelf.old).files) (ignored_at (tree.now looked.tree.old)) wanted walked.rows)
-        → Warns wanted looked.tree.old looked.tree.new walked.warnings → IsServedFor looked wanted table → AsksOwn looked wanted table → looked.tree.after ≡ looked.tree.before → looked.shelf.after ≡ looked.shelf.before
+        → IsListedFor looked wanted walked.rows table → Warns wanted looked.tree.old looked.tree.new walked.warnings → IsServedFor looked wanted table → AsksOwn looked wanted table → looked.tree.after ≡ looked.tree.before → looked.shelf.after ≡ looked.shelf.before
         → looked.oversize.after ≡ looked.oversize.before → IsNotedFor looked table walked.notes → IsRecordedFor looked wanted table walked.notes → IsNotedByFor looked wanted table walked.notes
         → Walks looked wanted table (Ok walked)
     walks_ok walked still warns served asked_own calm_tree calm_shelf calm_regexps noted recorded noted_by = record {
       tree = copy;
-      still = λ right. still (right_now files right);
+      still = still;
       warns = warns;
       worked = record {
         listable = record { patterns = had_patterns wanted looked.tree.old looked.tree.new walked.warnings warns; served = served };
@@ -151,6 +145,7 @@ module _ (looked : Looked) (wanted : Wanted) (table : Table) where
       cause = tt;
       asked = asked;
       store = store;
+      reads = reads;
       calm_tree = calm_tree;
       calm_shelf = calm_shelf;
       calm_regexps = calm_regexps;
@@ -208,6 +203,7 @@ module _ (flags : StatusFlags) (looked : Looked) (table : Table) (out err : Sink
     shows = record { done = tt; left = (at_first, ((fault, refl, walks.cause), still, record { told = walk_told fault; silent = silent })) };
     asked = walks.asked;
     store = walks.store;
+    reads = walks.reads;
     calm = tt;
     streams = λ is. absurd (true≢false (sym is ∙ no_stream fault));
     tree_failed = λ rose. elim walks.stayed [
@@ -227,6 +223,7 @@ module _ (flags : StatusFlags) (looked : Looked) (table : Table) (out err : Sink
       shows = record { done = tt; left = (at_first, ((a_status.OutOfMemory, refl, tt), still, record { told = refl; silent = silent })) };
       asked = walks.asked;
       store = walks.store;
+      reads = walks.reads;
       calm = tt;
       streams = λ is. absurd (true≢false (sym is));
       tree_failed = λ rose. absurd (never_rose looked.tree.before looked.tree.after walks.calm_tree rose);
@@ -254,6 +251,7 @@ module _ (flags : StatusFlags) (looked : Looked) (table : Table) (out err : Sink
         };
         asked = walks.asked;
         store = walks.store;
+        reads = walks.reads;
         calm = tt;
         streams = λ is. walks.calm_shelf;
         tree_failed = λ rose. absurd (never_rose looked.tree.before looked.tree.after walks.calm_tree rose);
@@ -281,6 +279,7 @@ module _ (flags : StatusFlags) (looked : Looked) (table : Table) (out err : Sink
           };
           asked = walks.asked;
           store = walks.store;
+          reads = walks.reads;
           calm = tt;
           streams = λ is. walks.calm_shelf;
           tree_failed = λ rose. absurd (never_rose looked.tree.before looked.tree.after walks.calm_tree rose);
@@ -302,6 +301,7 @@ module _ (flags : StatusFlags) (looked : Looked) (table : Table) (out err : Sink
           };
           asked = walks.asked;
           store = walks.store;
+          reads = walks.reads;
           calm = record { tree = walks.calm_tree; shelf = walks.calm_shelf; regexps = walks.calm_regexps; out = calm_out; err = calm_err };
           streams = tt;
           tree_failed = λ rose. absurd (never_rose looked.tree.before looked.tree.after walks.calm_tree rose);

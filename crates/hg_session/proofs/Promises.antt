@@ -9,7 +9,7 @@ use Rattle.hg_report.specs.declared.fault.Fault.TheVariants as a_fault
 use Rattle.hg_save.proofs.Loads.{last_within, unstepped_found}
 use Rattle.hg_save.specs.Loads.{Try, files_at}
 use Rattle.hg_save.specs.Others.{named_file}
-use Rattle.hg_save.specs.Record.{docket_in, reading}
+use Rattle.hg_save.specs.Record.{shown_in, reading}
 use Rattle.hg_session.proofs.Looks.{not_without}
 use Rattle.hg_session.proofs.Crashes.{crash_safe, lasting}
 use Rattle.hg_session.proofs.Readings.{unreadable_now}
@@ -19,9 +19,10 @@ use Rattle.hg_ops.specs.declared.refusal.OpFault.{OpFault}
 use Rattle.hg_ops.specs.declared.refusal.OpFault.TheVariants as an_op
 use Rattle.hg_report.specs.Cause.{of_op}
 use Rattle.hg_session.specs.Acts.{Makes, makes_of}
-use Rattle.hg_session.specs.Call.{Call, Count, Fails, IsLeftAlone, Saved, Serves, Watched}
-use Rattle.hg_session.specs.Change.{ChangesBehind, FailsOrUnwritten, IsDone, IsEarly, IsLocked, IsMade, IsReadFirst, IsReadSome, IsSafe, MayFollowWriting, AsksChange, MetChanging, MetDoing, MetLocking, MetStop, MetUnfit, NoneOurs, Stretch, makes_in, of_change, up_to}
-use Rattle.hg_session.specs.Changed.{IsChangeText, IsExpectedChange, IsMadeOf, IsStoppedFor, IsUnfitFor, RanChange, change_look, looks_at_copy, status_of}
+use Rattle.hg_session.specs.Call.{Call, Count, Fails, Saved, Serves, Watched}
+use Rattle.hg_session.specs.Change.{ChangesBehind, FailsOrUnwritten, IsDone, IsLocked, IsMade, IsReadFirst, IsSafe, MayFollowWriting, AsksChange, MetChanging, MetDoing, MetLocking, MetStop, MetUnfit, NoneOurs, Stretch, makes_in, of_change, up_to}
+use Rattle.hg_session.specs.Changed.{IsChangeText, IsExpectedChange, IsMadeOf, IsStoppedFor, IsUnfitFor, change_look, looks_at_copy, status_of}
+use Rattle.hg_session.specs.Ends.{EndsChange}
 use Rattle.hg_session.proofs.Records.{puts_none}
 use Rattle.hg_session.specs.Look.{LeavesAt, Stage, at_first, at_saving, at_telling}
 use Rattle.hg_session.specs.Put.{IsFaultOrMemory, IsSilent, Tells, TellsLine, is_stream}
@@ -92,7 +93,7 @@ module _ (Does : Makes) (copy : Watched tree.History) (a b : Course) (before aft
       let same : files_at b.history a.history.last ≡ there = (past.stay a.history.last (omega arith)).shown in
       let docket : files_at b.history tried.docket ≡ there = ap (files_at b.history) first ∙ same in
       let file : files_at b.history tried.file ≡ there = ap (files_at b.history) last ∙ same in
-      λ i. record { docket = docket_in (docket i); file = named_file (docket_in (docket i)) (file i) }
+      λ i. record { docket = shown_in (docket i); file = named_file (shown_in (docket i)) (file i) }
 
   -- the docket and the data file that were read stand there
   read_stood : (loaded : Table) (read : IsReadFirst a.history b.history loaded) → stood_by b.history read.read.tried.last ≡ stood_in there
@@ -205,7 +206,7 @@ no_stream a_change_fault.ShelfFailed = refl
 
 module _ (command : Command) (copy : Watched tree.History) (a b : Course) (before after : ℕ) (locks oversize : Count) (out err : Watched (Option (List ℕ)))
     (silent : IsSilent out) (uncounted : oversize.after ≡ oversize.before) (changes : ChangesBehind command copy (record { old = a.history; new = b.history; before = before; after = after }))
-    (behind : IsLeftAlone copy ⊎ IsReadSome (record { old = a.history; new = b.history; before = before; after = after })) (asked : IsTrue a.history.told → AsksChange command copy a.history b.history) (kept : Goes a b) where
+    (asked : IsTrue a.history.told → AsksChange command copy a.history b.history) (kept : Goes a b) where
   abbrev call : Call
   call = record {
     command = command;
@@ -265,30 +266,28 @@ module _ (command : Command) (copy : Watched tree.History) (a b : Course) (befor
 
   pub ran_done : LockedBy None → (status : ℕ) (stretch : Stretch a.history b.history) (lines : List ℕ) (done : IsDone Does call.looked.shelf call.saved stretch.from stretch.to lines) → Grown err.old err.new lines → status ≡ status_of lines
       → (Undisturbed a b → IsSafe Does call.saved None) → copy.after ≡ copy.before → after ≡ before → err.after ≡ err.before → (locks.before < locks.after → ⊥) → (copy.before < copy.after → ⊥)
-      → RanChange call status None
+      → EndsChange call status None
   ran_done locked status stretch lines done grown is safe calm_tree calm_shelf calm_err unheld well = record {
-    shows = record {
-      done = λ none. record { ready = tt; printed = puts_none out silent; told = record { text = lines; is = change_text stretch lines done; put = grown; calm = calm_err } };
-      left = tt;
+    ran = record {
+      shows = record {
+        done = λ none. record { ready = tt; printed = puts_none out silent; told = record { text = lines; is = change_text stretch lines done; put = grown; calm = calm_err } };
+        left = tt;
+      };
+      ends = λ none. is;
+      safe = safe;
+      crash = λ calm keep first. crash_safe a b kept calm keep Does first None (safe calm);
+      held = λ rose. absurd (unheld rose);
+      complete = λ quiet r steady. done_own Does copy a b before after kept.past quiet.shelf stretch.from stretch.to lines done;
+      silent = silent;
+      uncounted = uncounted;
+      copy = changes;
+      asked = asked;
+      kept = kept;
+      locked = locked;
     };
-    ends = λ none. is;
-    safe = safe;
-    crash = λ calm keep first. crash_safe a b kept calm keep Does first None (safe calm);
-    held = λ rose. absurd (unheld rose);
-    tree = λ rose. absurd (well rose);
-    complete = λ quiet r steady. done_own Does copy a b before after kept.past quiet.shelf stretch.from stretch.to lines done;
-    calm_tree = λ none. calm_tree;
-    calm_shelf = λ none. calm_shelf;
+    calm = λ none. record { tree = calm_tree; shelf = calm_shelf; regexps = uncounted; out = silent.count; err = calm_err };
     streams = tt;
-    calm_err = λ none. calm_err;
-    silent = silent;
-    uncounted = uncounted;
-    copy = changes;
-    behind = behind;
-    early = λ never. absurd never;
-    asked = asked;
-    kept = kept;
-    locked = locked;
+    tree = λ rose. absurd (well rose);
   }
 
   safe_untold : IsSafe Does call.saved None → IsSafe Does call.saved (Some a_fault.ErrFailed)
@@ -297,30 +296,28 @@ module _ (command : Command) (copy : Watched tree.History) (a b : Course) (befor
 
   -- the error stream failed while the refused words were told
   pub ran_untold : LockedBy None → (stretch : Stretch a.history b.history) (lines : List ℕ) (done : IsDone Does call.looked.shelf call.saved stretch.from stretch.to lines) → GrownByFront err.old err.new lines → Fails err → after ≡ before
-      → (Undisturbed a b → IsSafe Does call.saved None) → (locks.before < locks.after → ⊥) → (copy.before < copy.after → ⊥) → (status : ℕ) → RanChange call status (Some a_fault.ErrFailed)
+      → (Undisturbed a b → IsSafe Does call.saved None) → (locks.before < locks.after → ⊥) → (copy.before < copy.after → ⊥) → (status : ℕ) → EndsChange call status (Some a_fault.ErrFailed)
   ran_untold locked stretch lines done grown failed calm_shelf safe unheld well status = record {
-    shows = record {
-      done = λ none. absurd (cc none);
-      left = (at_telling, (tt, tt, puts_none out silent, record { text = lines; is = change_text stretch lines done; put = grown; failed = failed }, refl));
+    ran = record {
+      shows = record {
+        done = λ none. absurd (cc none);
+        left = (at_telling, (tt, tt, puts_none out silent, record { text = lines; is = change_text stretch lines done; put = grown; failed = failed }, refl));
+      };
+      ends = λ none. absurd (cc none);
+      safe = λ calm. safe_untold (safe calm);
+      crash = λ calm keep first. crash_safe a b kept calm keep Does first (Some a_fault.ErrFailed) (safe_untold (safe calm));
+      held = λ rose. absurd (unheld rose);
+      complete = λ quiet r steady. steady_not_rose err.before err.after r failed;
+      silent = silent;
+      uncounted = uncounted;
+      copy = changes;
+      asked = asked;
+      kept = kept;
+      locked = locked_as None (Some a_fault.ErrFailed) (λ fault is. never_none fault is) locked;
     };
-    ends = λ none. absurd (cc none);
-    safe = λ calm. safe_untold (safe calm);
-    crash = λ calm keep first. crash_safe a b kept calm keep Does first (Some a_fault.ErrFailed) (safe_untold (safe calm));
-    held = λ rose. absurd (unheld rose);
-    tree = λ rose. absurd (well rose);
-    complete = λ quiet r steady. steady_not_rose err.before err.after r failed;
-    calm_tree = λ none. absurd (cc none);
-    calm_shelf = λ none. absurd (cc none);
+    calm = λ none. absurd (cc none);
     streams = λ is. calm_shelf;
-    calm_err = λ none. absurd (cc none);
-    silent = silent;
-    uncounted = uncounted;
-    copy = changes;
-    behind = behind;
-    early = λ never. absurd never;
-    asked = asked;
-    kept = kept;
-    locked = locked_as None (Some a_fault.ErrFailed) (λ fault is. never_none fault is) locked;
+    tree = λ rose. absurd (well rose);
   }
 
   safe_any : (fault : Fault) → IsSafe Does call.saved (Some fault) → IsSafe Does call.saved (Some a_fault.OutOfMemory)
@@ -352,57 +349,53 @@ module _ (command : Command) (copy : Watched tree.History) (a b : Course) (befor
 
   ran_fault : (status : ℕ) (fault : ChangeFault) (answered : Fault) → LockedBy (Some (of_change fault)) → (answered ≡ of_change fault) ⊎ (answered ≡ a_fault.OutOfMemory) → MetLocking Does copy call.looked.shelf locks fault
       → (Undisturbed a b → IsSafe Does call.saved (Some (of_change fault))) → FailsOrUnwritten a.history b.history fault → (locks.before < locks.after → fault ≡ a_change_fault.Held)
-      → (copy.before < copy.after → fault ≡ a_change_fault.Op an_op.TreeFailed) → (IsEarly (of_change fault) → IsLeftAlone copy)
-      → TellsLine err.old err.new err.before err.after answered → RanChange call status (Some answered)
-  ran_fault status fault answered locked (inl same) met safe written held failed early line =
-      subst (λ (f : Fault). TellsLine err.old err.new err.before err.after f → RanChange call status (Some f)) (sym same) (λ told. record {
-        shows = record { done = λ none. absurd (cc none); left = stage_same fault met written told };
-        ends = λ none. absurd (cc none);
-        safe = safe;
-        crash = λ calm keep first. crash_safe a b kept calm keep Does first (Some (of_change fault)) (safe calm);
-        held = λ rose. inl (ap (λ (f : ChangeFault). Some (of_change f)) (held rose));
-        tree = λ rose. inl (ap (λ (f : ChangeFault). Some (of_change f)) (failed rose));
-        complete = λ quiet r steady. locked_own fault (safe (calm_own a b quiet.shelf)) met quiet.shelf (serves_met command copy call.looked.shelf (λ is. (quiet.copy is).1)) quiet.serves steady;
-        calm_tree = λ none. absurd (cc none);
-        calm_shelf = λ none. absurd (cc none);
+      → (copy.before < copy.after → fault ≡ a_change_fault.Op an_op.TreeFailed)
+      → TellsLine err.old err.new err.before err.after answered → EndsChange call status (Some answered)
+  ran_fault status fault answered locked (inl same) met safe written held failed line =
+      subst (λ (f : Fault). TellsLine err.old err.new err.before err.after f → EndsChange call status (Some f)) (sym same) (λ told. record {
+        ran = record {
+          shows = record { done = λ none. absurd (cc none); left = stage_same fault met written told };
+          ends = λ none. absurd (cc none);
+          safe = safe;
+          crash = λ calm keep first. crash_safe a b kept calm keep Does first (Some (of_change fault)) (safe calm);
+          held = λ rose. inl (ap (λ (f : ChangeFault). Some (of_change f)) (held rose));
+          complete = λ quiet r steady. locked_own fault (safe (calm_own a b quiet.shelf)) met quiet.shelf (serves_met command copy call.looked.shelf (λ is. (quiet.copy is).1)) quiet.serves steady;
+          silent = silent;
+          uncounted = uncounted;
+          copy = changes;
+          asked = asked;
+          kept = kept;
+          locked = locked;
+        };
+        calm = λ none. absurd (cc none);
         streams = λ is. absurd (true≢false (sym is ∙ no_stream fault));
-        calm_err = λ none. absurd (cc none);
-        silent = silent;
-        uncounted = uncounted;
-        copy = changes;
-        behind = behind;
-        early = early;
-        asked = asked;
-        kept = kept;
-        locked = locked;
+        tree = λ rose. inl (ap (λ (f : ChangeFault). Some (of_change f)) (failed rose));
       }) line
-  ran_fault status fault answered locked (inr memory) met safe written held failed early line =
-      subst (λ (f : Fault). TellsLine err.old err.new err.before err.after f → RanChange call status (Some f)) (sym memory) (λ told. record {
-        shows = record { done = λ none. absurd (cc none); left = stage_memory fault met written told };
-        ends = λ none. absurd (cc none);
-        safe = λ calm. safe_any (of_change fault) (safe calm);
-        crash = λ calm keep first. crash_safe a b kept calm keep Does first (Some a_fault.OutOfMemory) (safe_any (of_change fault) (safe calm));
-        held = λ rose. inr refl;
-        tree = λ rose. inr refl;
-        complete = λ quiet r steady. tt;
-        calm_tree = λ none. absurd (cc none);
-        calm_shelf = λ none. absurd (cc none);
+  ran_fault status fault answered locked (inr memory) met safe written held failed line =
+      subst (λ (f : Fault). TellsLine err.old err.new err.before err.after f → EndsChange call status (Some f)) (sym memory) (λ told. record {
+        ran = record {
+          shows = record { done = λ none. absurd (cc none); left = stage_memory fault met written told };
+          ends = λ none. absurd (cc none);
+          safe = λ calm. safe_any (of_change fault) (safe calm);
+          crash = λ calm keep first. crash_safe a b kept calm keep Does first (Some a_fault.OutOfMemory) (safe_any (of_change fault) (safe calm));
+          held = λ rose. inr refl;
+          complete = λ quiet r steady. tt;
+          silent = silent;
+          uncounted = uncounted;
+          copy = changes;
+          asked = asked;
+          kept = kept;
+          locked = locked_as (Some (of_change fault)) (Some a_fault.OutOfMemory) (λ met is. inr refl) locked;
+        };
+        calm = λ none. absurd (cc none);
         streams = λ is. absurd (true≢false (sym is));
-        calm_err = λ none. absurd (cc none);
-        silent = silent;
-        uncounted = uncounted;
-        copy = changes;
-        behind = behind;
-        early = λ never. absurd never;
-        asked = asked;
-        kept = kept;
-        locked = locked_as (Some (of_change fault)) (Some a_fault.OutOfMemory) (λ met is. inr refl) locked;
+        tree = λ rose. inr refl;
       }) line
 
   pub ran_failed : (status : ℕ) (fault : ChangeFault) (answered : Option Fault) → LockedBy (Some (of_change fault)) → IsFaultOrMemory answered (of_change fault) → MetLocking Does copy call.looked.shelf locks fault
       → (Undisturbed a b → IsSafe Does call.saved (Some (of_change fault))) → FailsOrUnwritten a.history b.history fault → (locks.before < locks.after → fault ≡ a_change_fault.Held)
-      → (copy.before < copy.after → fault ≡ a_change_fault.Op an_op.TreeFailed) → (IsEarly (of_change fault) → IsLeftAlone copy)
-      → IfSome answered (λ f. TellsLine err.old err.new err.before err.after f) → RanChange call status answered
-  ran_failed status fault None locked is met safe written held failed early line = not_without None (of_change fault) is refl
-  ran_failed status fault (Some f) locked (inl same) met safe written held failed early line = ran_fault status fault f locked (inl (cc same)) met safe written held failed early line
-  ran_failed status fault (Some f) locked (inr memory) met safe written held failed early line = ran_fault status fault f locked (inr (cc memory)) met safe written held failed early line
+      → (copy.before < copy.after → fault ≡ a_change_fault.Op an_op.TreeFailed)
+      → IfSome answered (λ f. TellsLine err.old err.new err.before err.after f) → EndsChange call status answered
+  ran_failed status fault None locked is met safe written held failed line = not_without None (of_change fault) is refl
+  ran_failed status fault (Some f) locked (inl same) met safe written held failed line = ran_fault status fault f locked (inl (cc same)) met safe written held failed line
+  ran_failed status fault (Some f) locked (inr memory) met safe written held failed line = ran_fault status fault f locked (inr (cc memory)) met safe written held failed line

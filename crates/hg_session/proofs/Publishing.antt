@@ -13,8 +13,8 @@ use Rattle.hg_save.specs.Over.{HasUsed, IsGround, KeepsLists, KeepsOthersBy}
 use Rattle.hg_save.proofs.Parts.{torn_nowhere}
 use Rattle.hg_save.proofs.Published.{keeps_front}
 use Rattle.hg_save.specs.Leads.{Leads}
-use Rattle.hg_save.specs.Others.{IsFrontOf, named_file}
-use Rattle.hg_save.specs.Record.{data_name, docket_in, reading}
+use Rattle.hg_save.specs.Others.{IsFrontOf, named_file, nodes_in}
+use Rattle.hg_save.specs.Record.{data_name, shown_in, reading}
 use Rattle.hg_save.specs.Saved.{IsExact, IsLatest, KeepsOthers, LeavesOnly, ReadsAsBeforeOr, ShowsOnly, Stands, WritesOnly, new_docket}
 use Rattle.hg_save.specs.declared.loaded.Loaded.{Loaded}
 use Rattle.hg_save.specs.Behind.{KeepsUsedBytes}
@@ -42,7 +42,7 @@ writes_nothing new start f = record {
 }
 
 -- the start, behind the part that only asks, and the end; the record that stood was loaded
-module _ (a b c : Course) (ours : a.history.ours ≡ true) (passes : Passes a.history b.history) (goes : Goes b c) (calm : Undisturbed a c) (loaded : Loaded) (stands : Stands loaded.docket.items (last_scene b)) where
+module _ (a b c : Course) (ours : a.history.ours ≡ true) (passes : Passes a.history b.history) (goes : Goes b c) (calm : Undisturbed a c) (loaded : Loaded) (stands : Stands loaded.shown.items (last_scene b)) where
   -- what a crash leaves of a table that was written over the record
   crash_over : (found : Table) → LeavesOnly b c (Some (Ok found)) → (k : ℕ) (f : Files) → a.history.last ≤ k → k ≤ c.history.last → (scene c k).leaves f → ReadsAsBeforeOr (scene c a.history.last) (Some (Ok found)) f
   crash_over found only k f from to is = elim (cases_lt b.history.last k) [
@@ -95,17 +95,17 @@ module _ (a b c : Course) (ours : a.history.ours ≡ true) (passes : Passes a.hi
   spared_by held a_way.Append leads k f from to is = spared_over (KeepsUsedBytes held.docket.id held.docket.used) (used_itself held.docket.id held.docket.used) leads k f from to is
 
   -- the table was opened over what was loaded
-  module _ (made : Held) (named : made.docket ≡ docket_of loaded.docket.items) (bytes : made.bytes ≡ loaded.nodes.items) where
-    docket_there : made.docket ≡ docket_of (docket_in (scene c a.history.last).files)
-    docket_there = named ∙ ap docket_of (sym stands ∙ ap docket_in (end_remains a b c ours passes goes calm).shown)
+  module _ (made : Held) (named : made.docket ≡ docket_of loaded.shown.items) (bytes : made.bytes ≡ loaded.nodes.items) where
+    docket_there : made.docket ≡ docket_of (shown_in (scene c a.history.last).files)
+    docket_there = named ∙ ap docket_of (sym stands ∙ ap shown_in (end_remains a b c ours passes goes calm).shown)
 
     -- the nodes that its docket uses stand there
-    nodes_there : HasUsed loaded (last_scene b) → 0 < made.docket.used → IsFrontOf (named_file (docket_in (scene c a.history.last).files) (scene c a.history.last).files) made.docket.used made.bytes
+    nodes_there : HasUsed loaded (last_scene b) → 0 < made.docket.used → IsFrontOf (named_file (shown_in (scene c a.history.last).files) (scene c a.history.last).files) made.docket.used made.bytes
     nodes_there used =
-        subst (λ (f : Files). 0 < made.docket.used → IsFrontOf (named_file (docket_in f) f) made.docket.used made.bytes) (end_remains a b c ours passes goes calm).shown
+        subst (λ (f : Files). 0 < made.docket.used → IsFrontOf (nodes_in f) made.docket.used made.bytes) (end_remains a b c ours passes goes calm).shown
         (subst (λ (l : List ℕ). 0 < made.docket.used → IsFrontOf (named_file l (last_scene b).files) made.docket.used made.bytes) (sym stands)
-        (subst (λ (l : List ℕ). 0 < made.docket.used → IsFrontOf (named_file loaded.docket.items (last_scene b).files) made.docket.used l) (sym bytes)
-        (subst (λ (d : Contents). 0 < d.used → IsFrontOf (named_file loaded.docket.items (last_scene b).files) d.used loaded.nodes.items) (sym named) used)))
+        (subst (λ (l : List ℕ). 0 < made.docket.used → IsFrontOf (named_file loaded.shown.items (last_scene b).files) made.docket.used l) (sym bytes)
+        (subst (λ (d : Contents). 0 < d.used → IsFrontOf (named_file loaded.shown.items (last_scene b).files) d.used loaded.nodes.items) (sym named) used)))
 
     -- so it is made over the record that stands
     pub over_there : HasUsed loaded (last_scene b) → LendsUnchanged made → IsMadeOver (stood_in (scene c a.history.last).files) (table made) made

@@ -9,7 +9,7 @@ use Rattle.hg_save.proofs.Long.{front_sound}
 use Rattle.hg_save.proofs.Solid.{named_is}
 use Rattle.hg_save.specs.Loads.{Loads, ReadsAsOf, ReadsUsed, Try, files_at, found_by}
 use Rattle.hg_save.specs.Others.{IsFrontOf, UsesData, named_file}
-use Rattle.hg_save.specs.Record.{data_in, data_name, docket_in, named_reading}
+use Rattle.hg_save.specs.Record.{data_in, data_name, shown_in, named_reading}
 use Rattle.hg_save.specs.declared.loaded.Loaded.{Loaded}
 use Rattle.hg_session.proofs.Readings.{sound_reading}
 use Rattle.hg_shelf.specs.History.{Files, History}
@@ -26,13 +26,13 @@ front_by h at bytes nodes uses t (Some found) is (inr short) =
 some_in : (d : Contents) (files : Files) → 0 < d.used → data_in d files ≡ files (data_name d.id)
 some_in d files some = chosen (d.used == 0) (Some []) (files (data_name d.id)) (files (data_name d.id)) (not_zero d.used some) refl
 
-pub nodes_by : (old new : History) (tries : List Try) (loaded : Loaded) (recorded : Table) (loads : Loads old new tries (Ok loaded)) → docket_refusal loaded.docket.items ≡ None
-    → data_reading (docket_of loaded.docket.items) loaded.nodes.items ≡ Ok recorded → 0 < (docket_of loaded.docket.items).used
-    → IsFrontOf (named_file loaded.docket.items (files_at new loads.tried.last.file)) (docket_of loaded.docket.items).used loaded.nodes.items
+pub nodes_by : (old new : History) (tries : List Try) (loaded : Loaded) (recorded : Table) (loads : Loads old new tries (Ok loaded)) → docket_refusal loaded.shown.items ≡ None
+    → data_reading (docket_of loaded.shown.items) loaded.nodes.items ≡ Ok recorded → 0 < (docket_of loaded.shown.items).used
+    → IsFrontOf (named_file loaded.shown.items (files_at new loads.tried.last.file)) (docket_of loaded.shown.items).used loaded.nodes.items
 nodes_by old new tries loaded recorded loads sound nodes uses =
-    let bytes : List ℕ = loaded.docket.items in
+    let bytes : List ℕ = loaded.shown.items in
     let file : Files = files_at new loads.tried.last.file in
-    let same : docket_in (files_at new loads.tried.last.docket) ≡ bytes = sym loads.answer.docket in
+    let same : shown_in (files_at new loads.tried.last.docket) ≡ bytes = sym loads.answer.shown in
     let using : UsesData bytes = record { sound = sound; uses = uses } in
     let found : found_by new loads.tried.last ≡ Some (Ok recorded) =
     loads.answer.reading ∙ ap (λ (r : Result Table RecordFault). Some r) (sound_reading bytes loaded.nodes.items sound ∙ ap (λ (r : Result Table NodeFault). of_data r) nodes) in

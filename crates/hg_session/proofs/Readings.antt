@@ -2,6 +2,7 @@
 use Rattle.std.proofs.Common.{ℕ, ◌≡◌, ◌≤◌, List, [], ◌∷◌, map, Option, Some, None, Result, Ok, Err, IfOk, IsTrue, refl, sym, ap, ◌∙◌, subst, arith, inl, inr, true≢false}
 use Rattle.std.specs.List.{AllByRecursion}
 use Rattle.std.proofs.lemmas.Bool.{cases_Bool}
+use Rattle.hg_session.specs.Saving.{IsOpenedSince}
 use Rattle.hg_base.proofs.Faults.{steady_not_rose}
 use Rattle.hg_base.specs.Fault.{HasCause}
 use Rattle.hg_docket.specs.Docket.{docket_of, docket_refusal}
@@ -54,14 +55,14 @@ pub sound_reading : (docket nodes : List ℕ) → docket_refusal docket ≡ None
 sound_reading docket nodes sound = ap (λ (r : Option DocketFault). docket_reading r (data_reading (docket_of docket) nodes)) sound
 
 -- what the nodes lead to, behind a load
-pub read_by : {X : Type 0} (IsOf : Table → X → Type 0) (old new : History) (tried : Try) (loaded : Loaded) (result : Result X ReadFault) → docket_refusal loaded.docket.items ≡ None
-    → NodesFind IsOf result (data_reading (docket_of loaded.docket.items) loaded.nodes.items) → Loads old new (tried ∷ []) (Ok loaded) → Reads IsOf old new (tried ∷ []) result
+pub read_by : {X : Type 0} (IsOf : Table → X → Type 0) (old new : History) (tried : Try) (loaded : Loaded) (result : Result X ReadFault) → docket_refusal loaded.shown.items ≡ None
+    → NodesFind IsOf result (data_reading (docket_of loaded.shown.items) loaded.nodes.items) → Loads old new (tried ∷ []) (Ok loaded) → Reads IsOf old new (tried ∷ []) result
 read_by IsOf old new tried loaded result sound finds loads = record {
   tried = loads.tried;
   answer =
       subst (Answers IsOf result (map (id_by new) (tried ∷ [])))
-      (sym (loads.answer.reading ∙ ap (λ (r : Result Table RecordFault). Some r) (sound_reading loaded.docket.items loaded.nodes.items sound)))
-      (by_nodes IsOf result (map (id_by new) (tried ∷ [])) (data_reading (docket_of loaded.docket.items) loaded.nodes.items) finds);
+      (sym (loads.answer.reading ∙ ap (λ (r : Result Table RecordFault). Some r) (sound_reading loaded.shown.items loaded.nodes.items sound)))
+      (by_nodes IsOf result (map (id_by new) (tried ∷ [])) (data_reading (docket_of loaded.shown.items) loaded.nodes.items) finds);
 }
 
 pub refused_by : (fault : LoadFault) (old new : History) (tries : List Try) (loads : Loads old new tries (Err fault)) → IsRefused (by_load fault) (map (id_by new) tries) (found_by new loads.tried.last)
@@ -75,7 +76,7 @@ pub unread : {X : Type 0} (IsOf : Table → X → Type 0) (old new : History) (t
 unread IsOf old new tried fault loads = record { tried = loads.tried; answer = refused_by fault old new (tried ∷ []) loads }
 
 -- what was found before the shelf was asked more
-pub read_longer : (old mid new : History) (table : Table) → Extends mid new → IsRead old mid table → IsRead old new table
+abbrev pub read_longer : (old mid new : History) (table : Table) → Extends mid new → IsRead old mid table → IsRead old new table
 read_longer old mid new table second r = record {
   tries = r.tries;
   tried = tries_longer old mid new r.tries second r.tried;
@@ -99,8 +100,8 @@ found_some IsOf (Err fault) found is = tt
 
 -- ---- a record that was loaded and opened
 
-pub opened_as : (old new : History) (loaded : Loaded) (result : Result Held ReadFault) → docket_refusal loaded.docket.items ≡ None
-    → NodesFind (IsOpened loaded) result (data_reading (docket_of loaded.docket.items) loaded.nodes.items)
+pub opened_as : (old new : History) (loaded : Loaded) (result : Result Held ReadFault) → docket_refusal loaded.shown.items ≡ None
+    → NodesFind (IsOpened loaded) result (data_reading (docket_of loaded.shown.items) loaded.nodes.items)
     → (IsTrue old.told → (tried : Try) × LoadsOrRefuses old new (tried ∷ []) (Ok loaded)) → IsTrue old.told → (tried : Try) × Reads (IsOpened loaded) old new (tried ∷ []) result
 opened_as old new loaded result sound finds found told =
     let m = found told in (m.0, read_by (IsOpened loaded) old new m.0 loaded result sound finds m.1)
@@ -118,6 +119,17 @@ pub loaded_table : (files : Watched History) (mid : History) (all : Loaded) (ope
 loaded_table files mid all opened second found some =
     let l = loaded_as (IsOpened all) files mid opened second found some in
     subst (IsLoaded files) (sym (one_table (table opened) l.0 l.2.same)) l.1
+
+-- the record from which a table in memory was opened was read by its own try
+abbrev pub loaded_since : (start now : History) (all : Loaded) (recorded : Table) (opened : Held) → docket_refusal all.shown.items ≡ None → IsOpenedSince start now all recorded opened
+    → IsTrue start.told → IsRead start now recorded
+loaded_since start now all recorded opened sound since told = read_longer start since.mid now recorded since.past (record {
+  tries = (since.loads told).0 ∷ [];
+  tried = (since.loads told).1.tried;
+  found =
+      (since.loads told).1.answer.reading
+      ∙ ap (λ (r : Result Table RecordFault). Some r) (sound_reading all.shown.items all.nodes.items sound ∙ ap (λ (r : Result Table NodeFault). of_data r) since.nodes);
+})
 
 -- what was read before the caller made a step was read
 extends_up_to : (h : History) (upto : ℕ) → upto ≤ h.last → Extends (up_to upto h) h

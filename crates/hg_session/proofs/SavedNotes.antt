@@ -45,19 +45,19 @@ never_none fault is = absurd (cc is)
 -- ---- where the lock wasn't had
 
 -- nothing was noted, and nothing touched
-pub saves_blank : (start : History) (c : Course) (count held : ℕ) (recorded : Table) (notes : NotesData) → IsBlank notes
-    → SavesNotes start (record { old = c.history; new = c.history; before = count; after = count }) (record { old = c; new = c }) (record { before = held; after = held }) recorded notes None
-saves_blank start c count held recorded notes blank =
+pub saves_blank : (Own : Try → Type 0) (start : History) (c : Course) (count held : ℕ) (recorded : Table) (notes : NotesData) → IsBlank notes
+    → SavesNotes Own start (record { old = c.history; new = c.history; before = count; after = count }) (record { old = c; new = c }) (record { before = held; after = held }) recorded notes None
+saves_blank Own start c count held recorded notes blank =
     let only : OnlyReads (record { old = c.history; new = c.history; before = count; after = count }) (record { old = c; new = c }) (record { before = held; after = held }) =
     record { passes = passes_same c.history; kept = goes_same c; held = refl } in
     record { idle = λ none. (only, refl); safe = λ calm. inl (unwritten_here c.history); locked = inl (blank, only); saves = λ well. inl blank }
 
-module _ (start : History) (a b : Course) (lock : Waits a.history b.history) (before after : ℕ) (locks : Count) (recorded : Table) (notes : NotesData) (some : IsBlank notes → ⊥) (ours : b.history.ours ≡ a.history.ours) where
+module _ (Own : Try → Type 0) (start : History) (a b : Course) (lock : Waits a.history b.history) (before after : ℕ) (locks : Count) (recorded : Table) (notes : NotesData) (some : IsBlank notes → ⊥) (ours : b.history.ours ≡ a.history.ours) where
   abbrev called : Watched History
   called = record { old = a.history; new = b.history; before = before; after = after }
 
   -- it was refused
-  pub saves_refused : (IsTrue a.history.told → Refused a.history b.history) → Rose locks.before locks.after → SavesNotes start called (record { old = a; new = b }) locks recorded notes None
+  pub saves_refused : (IsTrue a.history.told → Refused a.history b.history) → Rose locks.before locks.after → SavesNotes Own start called (record { old = a; new = b }) locks recorded notes None
   saves_refused told rose = record {
     idle = λ blank. absurd (some blank);
     safe = λ calm. inl (record { none = lock.none });
@@ -67,7 +67,7 @@ module _ (start : History) (a b : Course) (lock : Waits a.history b.history) (be
 
   -- taking it failed
   pub saves_not_taken : (IsTrue a.history.told → NotTaken a.history b.history) → locks.after ≡ locks.before → Rose before after
-      → SavesNotes start called (record { old = a; new = b }) locks recorded notes (save_fault (Err a_save.ShelfFailed))
+      → SavesNotes Own start called (record { old = a; new = b }) locks recorded notes (save_fault (Err a_save.ShelfFailed))
   saves_not_taken told uncounted failed = record {
     idle = λ blank. absurd (some blank);
     safe = λ calm. inl (record { none = lock.none });
@@ -120,7 +120,7 @@ once_cause a b c d (Ok done) (Ok unit) same first second =
     let last : d ≡ c = second.quiet in
     record { later = omega (arith, same, quiet, last); quiet = last ∙ quiet ∙ same; rose = tt }
 
-module _ (start : History) (recorded : Table) (notes : NotesData) (a b c d : Course) (lock : Waits a.history b.history) (unlock : Waits c.history d.history) (p : Goes a b) (q : Goes b c) (r : Goes c d)
+module _ (Own : Try → Type 0) (start : History) (recorded : Table) (notes : NotesData) (a b c d : Course) (lock : Waits a.history b.history) (unlock : Waits c.history d.history) (p : Goes a b) (q : Goes b c) (r : Goes c d)
     (noted : IsTrue a.history.told → locks_are.IsNoted an_answer.Taken a.history b.history) (same : c.history.locks ≡ b.history.locks)
     (taken : IsTrue a.history.told → TakenAt a.history d.history b.history.last c.history.last) (held : IsTrue b.history.told → IsHeld b.history c.history) (first before after end : ℕ) where
   abbrev part : Watched History
@@ -169,11 +169,12 @@ module _ (start : History) (recorded : Table) (notes : NotesData) (a b c d : Cou
   stood_same : (tried : Try) → IsTry start c.history tried → stood_by d.history tried ≡ stood_by c.history tried
   stood_same tried is = stood_wide a b c d lock unlock p q r taken held tried is.docket.to is.file.to
 
-  another_wide : AnotherStood start c.history recorded b.history.last c.history.last → AnotherStood start d.history recorded b.history.last c.history.last
+  another_wide : AnotherStood Own start c.history recorded b.history.last c.history.last → AnotherStood Own start d.history recorded b.history.last c.history.last
   another_wide is =
       let docket : files_at d.history is.tried.docket ≡ files_at c.history is.tried.docket = (r.past.stay is.tried.docket is.within.docket.to).shown in
       record {
         tried = is.tried;
+        own = is.own;
         within = try_wide is.tried is.within;
         found = found_wide is.tried is.within ∙ is.found;
         at = is.at;
@@ -182,9 +183,10 @@ module _ (start : History) (recorded : Table) (notes : NotesData) (a b c d : Cou
         other = λ equal. is.other (sym (ap docket_in (r.past.stay is.at is.upto).shown) ∙ equal ∙ ap docket_in docket);
       }
 
-  cannot_wide : CannotWrite start c.history recorded notes → CannotWrite start d.history recorded notes
+  cannot_wide : CannotWrite Own start c.history recorded notes → CannotWrite Own start d.history recorded notes
   cannot_wide is = record {
     tried = is.tried;
+    own = is.own;
     within = try_wide is.tried is.within;
     found = found_wide is.tried is.within ∙ is.found;
     fault = is.fault;
@@ -192,15 +194,16 @@ module _ (start : History) (recorded : Table) (notes : NotesData) (a b c d : Cou
     unfit = subst (λ (stood : Stood). IsUnfit stood (applied notes recorded) is.fault) (sym (stood_same is.tried is.within)) is.unfit;
   }
 
-  why_wide : IsUnsaved start recorded notes inner b.history.last c.history.last → IsUnsaved start recorded notes outer b.history.last c.history.last
+  why_wide : IsUnsaved Own start recorded notes inner b.history.last c.history.last → IsUnsaved Own start recorded notes outer b.history.last c.history.last
   why_wide (inl other) = inl (another_wide other)
   why_wide (inr (inl cannot)) = inr (inl (cannot_wide cannot))
   why_wide (inr (inr equal)) = inr (inr equal)
 
-  noted_wide : IsNoted start recorded notes inner b.history.last c.history.last → IsNoted start recorded notes outer b.history.last c.history.last
+  noted_wide : IsNoted Own start recorded notes inner b.history.last c.history.last → IsNoted Own start recorded notes outer b.history.last c.history.last
   noted_wide (inl (why, none)) = inl (why_wide why, unwritten_wide a b c d lock unlock p q r taken held none)
   noted_wide (inr is) = inr (record {
     tried = is.tried;
+    own = is.own;
     within = try_wide is.tried is.within;
     found = found_wide is.tried is.within ∙ is.found;
     held = is.held;
@@ -211,7 +214,7 @@ module _ (start : History) (recorded : Table) (notes : NotesData) (a b c d : Cou
         (is.kept (λ way. wide.fair c.history d.history r.past b.history.last q.past.later (keep way))));
   })
 
-  noted_held : (IsNotedIn : Undisturbed b c → IsNoted start recorded notes inner b.history.last c.history.last) → IsNotedHeld start recorded notes outer
+  noted_held : (IsNotedIn : Undisturbed b c → IsNoted Own start recorded notes inner b.history.last c.history.last) → IsNotedHeld Own start recorded notes outer
   noted_held is = λ calm. (held_stretch a b c d lock unlock p q r taken held, noted_wide (is (calm_within a b c d lock unlock p q r taken held calm)))
 
   once_safe : (done : Result Unit SaveFault) (freed : Result Unit Failed) → IsSafeHeld Part inner (save_fault done) → IsSafe Whole outer (save_fault (once_saved done freed))
@@ -222,14 +225,14 @@ module _ (start : History) (recorded : Table) (notes : NotesData) (a b c d : Cou
     | inr is ↦ inr (inl refl, is.1)
   ]
 
-  once_saves : (done : Result Unit SaveFault) (freed : Result Unit Failed) → SavesHeld start part inner recorded notes (save_fault done) → save_fault (once_saved done freed) ≡ None → IsNotedHeld start recorded notes outer
+  once_saves : (done : Result Unit SaveFault) (freed : Result Unit Failed) → SavesHeld Own start part inner recorded notes (save_fault done) → save_fault (once_saved done freed) ≡ None → IsNotedHeld Own start recorded notes outer
   once_saves (Err fault) freed is well = never_none fault well
   once_saves (Ok done) (Err failed) is well = never_none a_save.ShelfFailed well
   once_saves (Ok done) (Ok unit) is well = noted_held (is.ends refl)
 
-  once_locked : (locks : Count) (done : Result Unit SaveFault) (freed : Result Unit Failed) → before ≡ first → locks.after ≡ locks.before → SavesHeld start part inner recorded notes (save_fault done)
+  once_locked : (locks : Count) (done : Result Unit SaveFault) (freed : Result Unit Failed) → before ≡ first → locks.after ≡ locks.before → SavesHeld Own start part inner recorded notes (save_fault done)
       → HasCause before after done (λ e. e ≡ a_save.ShelfFailed) → HasCause after end freed (λ e. Unit {0}) → Unlocks c.history.ours d.history.ours freed → (IsTrue c.history.told → NotesUnlock c.history d.history freed)
-      → IsLockedToSave start whole outer locks recorded notes (save_fault (once_saved done freed))
+      → IsLockedToSave Own start whole outer locks recorded notes (save_fault (once_saved done freed))
   once_locked locks done (Ok unit) counted uncounted is cause freed free unlocked = inr (inr (inr (inl (record {
     told = λ told. returned_by a.history b.history c.history d.history p.past q.past r.past (noted told) same (unlocked (q.past.told ∙ p.past.told ∙ told));
     ours = free;
@@ -255,8 +258,8 @@ module _ (start : History) (recorded : Table) (notes : NotesData) (a b c d : Cou
   }))))
 
   pub saves_locked : (locks : Count) (some : IsBlank notes → ⊥) (done : Result Unit SaveFault) (freed : Result Unit Failed) → before ≡ first → locks.after ≡ locks.before
-      → SavesHeld start part inner recorded notes (save_fault done) → HasCause before after done (λ e. e ≡ a_save.ShelfFailed) → HasCause after end freed (λ e. Unit {0}) → Unlocks c.history.ours d.history.ours freed
-      → (IsTrue c.history.told → NotesUnlock c.history d.history freed) → SavesNotes start whole outer locks recorded notes (save_fault (once_saved done freed))
+      → SavesHeld Own start part inner recorded notes (save_fault done) → HasCause before after done (λ e. e ≡ a_save.ShelfFailed) → HasCause after end freed (λ e. Unit {0}) → Unlocks c.history.ours d.history.ours freed
+      → (IsTrue c.history.told → NotesUnlock c.history d.history freed) → SavesNotes Own start whole outer locks recorded notes (save_fault (once_saved done freed))
   saves_locked locks some done freed counted uncounted is cause freed_cause free unlocked = record {
     idle = λ blank. absurd (some blank);
     safe = λ calm. once_safe done freed (is.safe (calm_within a b c d lock unlock p q r taken held calm));

@@ -1,17 +1,20 @@
 -- What became of notes behind a part of a call in which the caller only asked, said of the whole call.
-use Rattle.std.proofs.Common.{ℕ, ◌≡◌, List, ◌∷◌, [], ◌++◌, Option, Some, IsTrue, sym, ap, ◌∙◌, subst, inl, inr, arith}
+use Rattle.std.proofs.Common.{IsTrue, List, None, Option, Some, [], ℕ, ◌++◌, ◌∙◌, ◌∷◌, ◌≡◌, ◌⊎◌, ap, arith, inl, inr, subst, sym}
 use Rattle.std.proofs.lemmas.Bool.{cases_lt}
+use Rattle.std.specs.Prelude.{IsSomeAnd}
+use Rattle.hg_walk.specs.Applying.{IsBlank}
 use Rattle.hg_base.specs.Fault.{Rose}
 use Rattle.hg_entry.specs.Table.{Table}
 use Rattle.hg_report.specs.declared.fault.Fault.{Fault}
+use Rattle.hg_save.specs.Loads.{Try}
 use Rattle.hg_session.proofs.Locked.{unwritten_then}
 use Rattle.hg_session.specs.Acts.{Makes}
-use Rattle.hg_session.specs.Call.{Count, Fails, FailsTwice, Watched}
+use Rattle.hg_session.specs.Call.{Count, Fails, FailsTwice, Saved, Watched}
 use Rattle.hg_session.specs.Change.{IsKept, IsSafe, IsUnwritten, NoneOurs, Stretch, WasReturned}
 use Rattle.hg_session.specs.Locks.{NotReturned, NotTaken, came_to}
 use Rattle.hg_session.specs.Look.{OnlyReads}
 use Rattle.hg_session.specs.Saving.{IsLockedToSave, IsNoted, IsNotedHeld, SavesNotes, WasNotGivenBack, WasNotGot, WasPassedOver, noted_makes}
-use Rattle.hg_session.specs.Status.{SavesLast}
+use Rattle.hg_session.specs.Status.{IsLockedLast, SavesLast}
 use Rattle.hg_session.specs.Ways.{Stood, stood_by}
 use Rattle.hg_shelf.proofs.Histories.{passes_trans, us_apart}
 use Rattle.hg_shelf.proofs.Scenes.{goes_trans, second_part}
@@ -74,11 +77,12 @@ module _ (a c d : Course) (only : Passes a.history c.history) (first : Goes a c)
         ];
   }
 
-  module _ (t : Table) (notes : NotesData) where
-    noted_earlier : (from to : ℕ) → IsNoted a.history t notes (record { old = c; new = d }) from to → IsNoted a.history t notes (record { old = a; new = d }) from to
+  module _ (Own : Try → Type 0) (t : Table) (notes : NotesData) where
+    noted_earlier : (from to : ℕ) → IsNoted Own a.history t notes (record { old = c; new = d }) from to → IsNoted Own a.history t notes (record { old = a; new = d }) from to
     noted_earlier from to (inl (why, none)) = inl (why, unwritten_earlier none)
     noted_earlier from to (inr is) = inr (record {
       tried = is.tried;
+      own = is.own;
       within = is.within;
       found = is.found;
       held = is.held;
@@ -86,7 +90,7 @@ module _ (a c d : Course) (only : Passes a.history c.history) (first : Goes a c)
       kept = λ keep. kept_earlier (stood_by d.history is.tried) t (applied notes t) from to (is.kept keep);
     })
 
-    held_earlier : IsNotedHeld a.history t notes (record { old = c; new = d }) → IsNotedHeld a.history t notes (record { old = a; new = d })
+    held_earlier : IsNotedHeld Own a.history t notes (record { old = c; new = d }) → IsNotedHeld Own a.history t notes (record { old = a; new = d })
     held_earlier is calm =
         let held = is (second_part a c d first calm) in
         (stretch_earlier held.0, noted_earlier held.0.from held.0.to held.1)
@@ -166,7 +170,7 @@ module _ (a c d : Course) (only : Passes a.history c.history) (first : Goes a c)
             ];
       }
 
-      not_given_earlier : WasNotGivenBack a.history part (record { old = c; new = d }) locks_c t notes fault → WasNotGivenBack a.history whole (record { old = a; new = d }) locks t notes fault
+      not_given_earlier : WasNotGivenBack Own a.history part (record { old = c; new = d }) locks_c t notes fault → WasNotGivenBack Own a.history whole (record { old = a; new = d }) locks t notes fault
       not_given_earlier is = record {
         told = λ told. not_returned_earlier (is.told (told_part told));
         uncounted = is.uncounted ∙ uncounted;
@@ -179,14 +183,14 @@ module _ (a c d : Course) (only : Passes a.history c.history) (first : Goes a c)
             ];
       }
 
-      locked_earlier : IsLockedToSave a.history part (record { old = c; new = d }) locks_c t notes fault → IsLockedToSave a.history whole (record { old = a; new = d }) locks t notes fault
+      locked_earlier : IsLockedToSave Own a.history part (record { old = c; new = d }) locks_c t notes fault → IsLockedToSave Own a.history whole (record { old = a; new = d }) locks t notes fault
       locked_earlier (inl (blank, reads)) = inl (blank, reads_earlier reads)
       locked_earlier (inr (inl was)) = inr (inl (passed_earlier was))
       locked_earlier (inr (inr (inl was))) = inr (inr (inl (not_got_earlier was)))
       locked_earlier (inr (inr (inr (inl was)))) = inr (inr (inr (inl (returned_earlier was))))
       locked_earlier (inr (inr (inr (inr was)))) = inr (inr (inr (inr (not_given_earlier was))))
 
-      pub saves_earlier : SavesNotes a.history part (record { old = c; new = d }) locks_c t notes fault → SavesLast whole (record { old = a; new = d }) locks (Some t) notes fault
+      pub saves_earlier : SavesNotes Own a.history part (record { old = c; new = d }) locks_c t notes fault → SavesLast Own whole (record { old = a; new = d }) locks (Some t) notes fault
       saves_earlier is = record {
         safe = λ calm. safe_earlier (noted_makes whole t notes) fault (is.safe (second_part a c d first calm));
         idle = λ blank. reads_earlier (is.idle blank).0;
@@ -198,3 +202,58 @@ module _ (a c d : Course) (only : Passes a.history c.history) (first : Goes a c)
         ];
         kept = goes_trans a c d first goes;
       }
+
+-- ---- by which try
+
+module _ (Own Other : Try → Type 0) (by : (tried : Try) → Own tried → Other tried) (files : Watched History) (saved : Saved) (locks : Count) where
+  module _ (t : Table) (notes : NotesData) where
+    noted_by : (from to : ℕ) → IsNoted Own files.old t notes saved from to → IsNoted Other files.old t notes saved from to
+    noted_by from to (inl (inl is, none)) =
+        inl (inl (record { tried = is.tried; own = by is.tried is.own; within = is.within; found = is.found; at = is.at; later = is.later; upto = is.upto; other = is.other }), none)
+    noted_by from to (inl (inr (inl is), none)) =
+        inl (inr (inl (record { tried = is.tried; own = by is.tried is.own; within = is.within; found = is.found; fault = is.fault; told = is.told; unfit = is.unfit })), none)
+    noted_by from to (inl (inr (inr same), none)) = inl (inr (inr same), none)
+    noted_by from to (inr is) = inr (record { tried = is.tried; own = by is.tried is.own; within = is.within; found = is.found; held = is.held; over = is.over; kept = is.kept })
+
+    held_by : IsNotedHeld Own files.old t notes saved → IsNotedHeld Other files.old t notes saved
+    held_by is calm = let held = is calm in (held.0, noted_by held.0.from held.0.to held.1)
+
+    locked_by : (fault : Option Fault) → IsLockedToSave Own files.old files saved locks t notes fault → IsLockedToSave Other files.old files saved locks t notes fault
+    locked_by fault (inl is) = inl is
+    locked_by fault (inr (inl was)) = inr (inl was)
+    locked_by fault (inr (inr (inl was))) = inr (inr (inl was))
+    locked_by fault (inr (inr (inr (inl was)))) = inr (inr (inr (inl was)))
+    locked_by fault (inr (inr (inr (inr was)))) = inr (inr (inr (inr (record {
+      told = was.told;
+      uncounted = was.uncounted;
+      failed = was.failed;
+      first =
+          elim was.first [
+            | inl (answer, inl noted) ↦ inl (answer, inl (held_by noted))
+            | inl (answer, inr twice) ↦ inl (answer, inr twice)
+            | inr memory ↦ inr memory
+          ];
+    }))))
+
+    left_by : IsBlank notes ⊎ (Rose locks.before locks.after ⊎ IsNotedHeld Own files.old t notes saved) → IsBlank notes ⊎ (Rose locks.before locks.after ⊎ IsNotedHeld Other files.old t notes saved)
+    left_by (inl blank) = inl blank
+    left_by (inr (inl rose)) = inr (inl rose)
+    left_by (inr (inr noted)) = inr (inr (held_by noted))
+
+  last_by : (o : Option Table) (notes : NotesData) (fault : Option Fault) → IsLockedLast Own files saved locks o notes fault → IsLockedLast Other files saved locks o notes fault
+  last_by None notes fault is = is
+  last_by (Some t) notes fault is = locked_by t notes fault is
+
+  some_by : (o : Option Table) (notes : NotesData) → IsSomeAnd o (λ t. IsBlank notes ⊎ (Rose locks.before locks.after ⊎ IsNotedHeld Own files.old t notes saved))
+      → IsSomeAnd o (λ t. IsBlank notes ⊎ (Rose locks.before locks.after ⊎ IsNotedHeld Other files.old t notes saved))
+  some_by None notes is = is
+  some_by (Some t) notes is = left_by t notes is
+
+  pub saves_by : (table : Option Table) (notes : NotesData) (fault : Option Fault) → SavesLast Own files saved locks table notes fault → SavesLast Other files saved locks table notes fault
+  saves_by table notes fault is = record {
+    safe = is.safe;
+    idle = is.idle;
+    locked = last_by table notes fault is.locked;
+    saves = λ none. some_by table notes (is.saves none);
+    kept = is.kept;
+  }

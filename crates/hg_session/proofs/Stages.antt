@@ -1,18 +1,21 @@
 -- What a status does, exit by exit: the record wasn't read, it wasn't shown, or what was noted was saved or not.
 use Rattle.std.proofs.Common.{ℕ, ◌≡◌, ◌<◌, ◌⊎◌, Bool, true, false, List, [], ◌∷◌, Option, Some, None, Result, Ok, Err, IsTrue, OnOk, refl, sym, ap, ◌∙◌, subst, inl, inr, arith, true≢false}
 use Rattle.std.specs.List.{Contains}
-use Rattle.hg_compare.specs.Tracked.{ParentRow}
 use Rattle.hg_entry.specs.Table.{Table}
+use Rattle.hg_flat.proofs.Needing.{needed_moved}
+use Rattle.hg_manifest.specs.Load.{Was}
 use Rattle.hg_report.specs.Fault.{has_line}
 use Rattle.hg_report.specs.declared.fault.Fault.{Fault}
 use Rattle.hg_report.specs.declared.fault.Fault.TheVariants as a_fault
 use Rattle.hg_save.specs.Asked.{docket_ask}
+use Rattle.hg_save.specs.Loads.{Try}
 use Rattle.hg_shelf.proofs.Histories.{extends_same}
 use Rattle.hg_shelf.specs.Asks.{AsksFrontOf}
 use Rattle.hg_shelf.specs.History as shelf
-use Rattle.hg_shelf.specs.Polite.{KeepsPlain}
+use Rattle.hg_shelf.specs.Polite.{StaysPlain}
+use Rattle.hg_shelf.specs.History.{Files}
 use Rattle.hg_tree.specs.History as tree
-use Rattle.hg_session.proofs.Listings.{asks_below, asks_little, asks_load, left_by, part_of, plain_by, rows_same, shown_by}
+use Rattle.hg_session.proofs.Listings.{asks_below, asks_little, asks_load, left_by, part_of, plain_by, shown_by}
 use Rattle.hg_session.proofs.Locked.{unwritten}
 use Rattle.hg_session.proofs.Longer.{plain_shorter}
 use Rattle.hg_session.proofs.Printing.{never_rose, no_notes, none_noted}
@@ -20,28 +23,28 @@ use Rattle.hg_session.proofs.Records.{read_stream}
 use Rattle.hg_session.specs.Call.{Count, Fails, IsLeftAlone, Looked, Saved, Sink, Watched}
 use Rattle.hg_session.specs.Change.{IsUnwritten}
 use Rattle.hg_session.specs.Flags.{wanted_of}
-use Rattle.hg_session.specs.Listed.{AsksBelow}
+use Rattle.hg_session.specs.Listed.{AsksBelow, status_over}
 use Rattle.hg_session.specs.Load.{of_read}
 use Rattle.hg_session.specs.Loaded.{AsksRecord, IsLoaded, MetReading}
 use Rattle.hg_session.specs.Look.{IsCalm, IsShown, OnlyReads, Shows, at_first, at_saving, fault_in}
 use Rattle.hg_session.specs.Put.{IsSilent, OnStream, is_stream}
 use Rattle.hg_session.specs.Saving.{of_save}
-use Rattle.hg_session.specs.Status.{AreEarnedFor, DoesStatus, IsLockedLast, MetSaving, OnlyAsksBelow, SavesLast, ShowsTable, listed_to, status_look}
+use Rattle.hg_session.specs.Status.{AreEarnedFor, ByLoaded, DoesStatus, IsLockedLast, MetSaving, OnlyAsksBelow, SavesLast, ShowsTable, listed_to, status_look}
 use Rattle.hg_session.specs.declared.read_fault.ReadFault.{ReadFault}
 use Rattle.hg_session.specs.declared.read_fault.ReadFault.TheVariants as a_read
 use Rattle.hg_session.specs.declared.save_fault.SaveFault.{SaveFault}
 use Rattle.hg_session.specs.declared.save_fault.SaveFault.TheVariants as a_save
 use Rattle.hg_walk.specs.Applying.{CanApply}
-use Rattle.hg_walk.specs.Notes.{AreEarned, DirNote, NotesData}
+use Rattle.hg_walk.specs.Notes.{DirNote, NotesData}
 use Rattle.hg_walk.specs.Walking.{AreNeeded, AreNoted}
 use Rattle.hg_words.specs.declared.flags.StatusFlags.{StatusFlags}
 
 -- ---- nothing is saved
 
 -- a fault was met before anything is saved
-none_saved : (files : Watched shelf.History) (saved : Saved) (locks : Count) (table : Option Table) (notes : NotesData) (fault : Fault) → OnlyAsksBelow saved locks → OnlyReads files saved locks
-    → SavesLast files saved locks table notes (Some fault)
-none_saved files saved locks table notes fault unsaved only = record {
+none_saved : (Own : Try → Type 0) (files : Watched shelf.History) (saved : Saved) (locks : Count) (table : Option Table) (notes : NotesData) (fault : Fault) → OnlyAsksBelow saved locks → OnlyReads files saved locks
+    → SavesLast Own files saved locks table notes (Some fault)
+none_saved Own files saved locks table notes fault unsaved only = record {
   safe = λ calm. inl (unwritten saved.old.history saved.new.history unsaved.passes);
   idle = λ blank. only;
   locked = by_table table;
@@ -49,7 +52,7 @@ none_saved files saved locks table notes fault unsaved only = record {
   kept = unsaved.kept;
 }
   where
-    by_table : (t : Option Table) → IsLockedLast files saved locks t notes (Some fault)
+    by_table : (t : Option Table) → IsLockedLast Own files saved locks t notes (Some fault)
     by_table None = only
     by_table (Some t) = inl (tt, only)
 
@@ -83,6 +86,7 @@ module _ (flags : StatusFlags) (looked : Looked) (saved : Saved) (locks : Count)
     tree = tree_passes;
     shows = record { done = tt; left = (at_first, ((unsaved, inl (fault, refl, met)), still, record { told = read_told fault; silent = silent })) };
     asked = λ told. inl (ap_asked copy);
+    reads = λ told. inl (ap_asked copy);
     below = asks_load looked (wanted_of flags) None load;
     calm = tt;
     streams = λ is. absurd (true≢false (sym is ∙ read_stream fault));
@@ -91,7 +95,7 @@ module _ (flags : StatusFlags) (looked : Looked) (saved : Saved) (locks : Count)
     needed = tt;
     noted = none_noted looked.tree.old looked.tree.new;
     earned = tt;
-    saving = none_saved looked.shelf saved locks None no_notes (of_read fault) unsaved (record { passes = passes; kept = unsaved.kept; held = unsaved.held });
+    saving = none_saved (λ tried. ⊥) looked.shelf saved locks None no_notes (of_read fault) unsaved (record { passes = passes; kept = unsaved.kept; held = unsaved.held });
   }
     where
       ap_asked : IsLeftAlone looked.tree → looked.tree.new.asked ≡ looked.tree.old.asked
@@ -107,6 +111,10 @@ module _ (flags : StatusFlags) (looked : Looked) (saved : Saved) (locks : Count)
   abbrev part : Looked
   part = part_of behind n m listed
 
+  -- the try by which the record was read
+  abbrev Own : Try → Type 0
+  Own = ByLoaded listed.shelf (Some t) loaded
+
   -- behind the listing the docket is asked for once at most
   abbrev Asks : Type 0
   Asks = IsTrue end.told → AsksFrontOf (docket_ask ∷ []) end looked.shelf.new
@@ -115,16 +123,22 @@ module _ (flags : StatusFlags) (looked : Looked) (saved : Saved) (locks : Count)
   below_by asks fault shows = asks_below flags listed behind n m t shows.tree before after looked.shelf.new later asks load shows.store
 
   module _ (answer : Result NotesData Fault) (shows : ShowsTable flags part t out err answer) where
-    short : KeepsPlain looked.shelf.new looked.shelf.old.last → KeepsPlain end looked.shelf.old.last
-    short keeps = plain_shorter end looked.shelf.new later looked.shelf.old.last only.past.later keeps
+    short : (store : shelf.Files) → StaysPlain store looked.shelf.new looked.shelf.old.last → StaysPlain store end looked.shelf.old.last
+    short store keeps = plain_shorter end looked.shelf.new later store looked.shelf.old.last keeps
+
+    -- what the files below `.hg` were while it listed they were in the call
+    was_over : (name : List ℕ) (P : Option (List ℕ) → Type 0) → Was behind end name P → Was looked.shelf.old looked.shelf.new name P
+    was_over name P was = record {
+      at = was.at;
+      during = λ told. let during = was.during (before.past.told ∙ told) in record { from = omega (arith, before.past.later, during.from); to = omega (arith, during.to, later.later) };
+      so = λ told. subst (λ (f : Files). P (f name)) (sym (later.stay was.at (was.during (before.past.told ∙ told)).to).shown) (was.so (before.past.told ∙ told));
+    }
 
     -- each time was seen with what it stands for
     earned_by : AreEarnedFor looked t shows.notes
-    earned_by honest told keeps =
-        subst (λ (rows : List ℕ → Option ParentRow). AreEarned rows t looked.tree.new shows.notes) (rows_same flags listed behind n m t shows.tree before after (short keeps))
-        (shows.noted.earned honest told (plain_by flags listed behind n m t shows.tree before after (short keeps)))
+    earned_by store honest told keeps = shows.noted.earned store honest told (plain_by flags listed behind n m t shows.tree before after store (short store keeps))
 
-    does_by : (result : Result Unit Fault) → SavesLast looked.shelf saved locks (Some t) shows.notes (fault_in result) → Asks
+    does_by : (result : Result Unit Fault) → SavesLast Own looked.shelf saved locks (Some t) shows.notes (fault_in result) → Asks
         → Shows (status_look flags listed saved locks (Some t) shows.notes) out err result → OnOk result (IsCalm looked out err) → OnStream (fault_in result) (looked.shelf.after ≡ looked.shelf.before)
         → (looked.tree.before < looked.tree.after → fault_in result ≡ Some a_fault.TreeFailed) → DoesStatus flags looked saved locks out err result
     does_by result saving asks all calm streams tree_failed = record {
@@ -137,6 +151,7 @@ module _ (flags : StatusFlags) (looked : Looked) (saved : Saved) (locks : Count)
       notes = shows.notes;
       shows = all;
       asked = asks_little looked (wanted_of flags) t shows.asked;
+      reads = λ told. inr (needed_moved (status_over part (wanted_of flags) t) looked.shelf.old looked.shelf.new was_over (shows.reads told));
       below = below_by asks answer shows;
       calm = calm;
       streams = streams;
@@ -151,7 +166,7 @@ module _ (flags : StatusFlags) (looked : Looked) (saved : Saved) (locks : Count)
   pub does_unshown : Asks → OnlyAsksBelow saved locks → OnlyReads looked.shelf saved locks → (Fails part.shelf → Fails looked.shelf) → (part.shelf.after ≡ part.shelf.before → looked.shelf.after ≡ looked.shelf.before)
       → (fault : Fault) → ShowsTable flags part t out err (Err fault) → DoesStatus flags looked saved locks out err (Err fault)
   does_unshown asks unsaved reads failed calm fault shows =
-      does_by (Err fault) shows (Err fault) (none_saved looked.shelf saved locks (Some t) shows.notes fault unsaved reads) asks
+      does_by (Err fault) shows (Err fault) (none_saved Own looked.shelf saved locks (Some t) shows.notes fault unsaved reads) asks
       (record { done = tt; left = left_by flags listed behind n m t shows.tree before after saved locks out err shows.notes unsaved failed fault shows.shows.left }) tt
       (λ is. calm (shows.streams is)) shows.tree_failed
 
@@ -161,12 +176,12 @@ module _ (flags : StatusFlags) (looked : Looked) (saved : Saved) (locks : Count)
   shown notes shows = shown_by flags listed behind n m t shows.tree before after saved locks out err shows.notes shows.shows.done
 
   -- what is saved is what was noted
-  saves_noted : (notes : NotesData) (shows : ShowsTable flags part t out err (Ok notes)) (fault : Option Fault) → SavesLast looked.shelf saved locks (Some t) notes fault
-      → SavesLast looked.shelf saved locks (Some t) shows.notes fault
-  saves_noted notes shows fault saving = subst (λ (n : NotesData). SavesLast looked.shelf saved locks (Some t) n fault) shows.answered saving
+  saves_noted : (notes : NotesData) (shows : ShowsTable flags part t out err (Ok notes)) (fault : Option Fault) → SavesLast Own looked.shelf saved locks (Some t) notes fault
+      → SavesLast Own looked.shelf saved locks (Some t) shows.notes fault
+  saves_noted notes shows fault saving = subst (λ (n : NotesData). SavesLast Own looked.shelf saved locks (Some t) n fault) shows.answered saving
 
   -- and saved, or nothing was to be saved
-  pub does_saved : (notes : NotesData) (shows : ShowsTable flags part t out err (Ok notes)) (u : Unit) → SavesLast looked.shelf saved locks (Some t) notes None → Asks
+  pub does_saved : (notes : NotesData) (shows : ShowsTable flags part t out err (Ok notes)) (u : Unit) → SavesLast Own looked.shelf saved locks (Some t) notes None → Asks
       → looked.shelf.after ≡ looked.shelf.before → DoesStatus flags looked saved locks out err (Ok u)
   does_saved notes shows u saving asks calm =
       does_by (Ok notes) shows (Ok u) (saves_noted notes shows None saving) asks (record { done = shown notes shows; left = tt })
@@ -174,7 +189,7 @@ module _ (flags : StatusFlags) (looked : Looked) (saved : Saved) (locks : Count)
       (λ rose. absurd (never_rose looked.tree.before looked.tree.after shows.calm.tree rose))
 
   -- saving met a fault
-  pub does_unsaved : (notes : NotesData) (shows : ShowsTable flags part t out err (Ok notes)) (fault : Fault) → SavesLast looked.shelf saved locks (Some t) notes (Some fault) → Asks
+  pub does_unsaved : (notes : NotesData) (shows : ShowsTable flags part t out err (Ok notes)) (fault : Fault) → SavesLast Own looked.shelf saved locks (Some t) notes (Some fault) → Asks
       → MetSaving looked.shelf saved fault → DoesStatus flags looked saved locks out err (Err fault)
   does_unsaved notes shows fault saving asks met =
       let is = shown notes shows in

@@ -10,8 +10,8 @@ use Rattle.hg_save.proofs.Loads.{named_sound}
 use Rattle.hg_save.proofs.Others.{one_load}
 use Rattle.hg_save.proofs.Tails.{front_same}
 use Rattle.hg_save.specs.Loads.{Loads, Try, files_at}
-use Rattle.hg_save.specs.Others.{HasFront, IsFrontOf, KeepData, KeepsFront, UsesData, named_file}
-use Rattle.hg_save.specs.Record.{data_in, data_name, docket_in, named_reading, reading}
+use Rattle.hg_save.specs.Others.{HasFront, IsFrontOf, KeepData, KeepsFront, UsesData, named_file, nodes_in}
+use Rattle.hg_save.specs.Record.{data_in, data_name, shown_in, named_reading, reading}
 use Rattle.hg_save.specs.declared.loaded.Loaded.{Loaded}
 use Rattle.hg_shelf.specs.History.{Extends, Files, History}
 
@@ -21,14 +21,14 @@ keep_earlier c d start past keep = record {
   told = sym past.told ∙ keep.told;
   there = λ k from to uses.
       let same = (past.stay k to).shown in
-      subst (λ (f : Files). HasFront (docket_of (docket_in f)).used (named_file (docket_in f) f)) same
-      (keep.there k from (omega (arith, to, past.later)) (subst (λ (f : Files). UsesData (docket_in f)) (sym same) uses));
+      subst (λ (f : Files). HasFront (docket_of (shown_in f)).used (nodes_in f)) same
+      (keep.there k from (omega (arith, to, past.later)) (subst (λ (f : Files). UsesData (shown_in f)) (sym same) uses));
   kept = λ k m from order to uses.
       let same = (past.stay k (omega (arith, order, to))).shown in
       let later = (past.stay m to).shown in
-      subst (λ (f : Files). KeepsFront (docket_of (docket_in f)).used (named_file (docket_in f) f) (named_file (docket_in f) (files_at c m))) same
-      (subst (λ (f : Files). KeepsFront (docket_of (docket_in (files_at d k))).used (named_file (docket_in (files_at d k)) (files_at d k)) (named_file (docket_in (files_at d k)) f)) later
-      (keep.kept k m from order (omega (arith, to, past.later)) (subst (λ (f : Files). UsesData (docket_in f)) (sym same) uses)));
+      subst (λ (f : Files). KeepsFront (docket_of (shown_in f)).used (nodes_in f) (named_file (shown_in f) (files_at c m))) same
+      (subst (λ (f : Files). KeepsFront (docket_of (shown_in (files_at d k))).used (nodes_in (files_at d k)) (named_file (shown_in (files_at d k)) f)) later
+      (keep.kept k m from order (omega (arith, to, past.later)) (subst (λ (f : Files). UsesData (shown_in f)) (sym same) uses)));
 }
 
 -- ---- the data file
@@ -63,14 +63,14 @@ front_later d early late nodes has keeps (inr some) front =
 
 -- ---- the record
 
-pub still_recorded : (start mid h : History) (past : Extends mid h) (loaded : Loaded) (tried : Try) (recorded : Table) → docket_refusal loaded.docket.items ≡ None → Loads start mid (tried ∷ []) (Ok loaded)
-    → data_reading (docket_of loaded.docket.items) loaded.nodes.items ≡ Ok recorded → KeepData h start.last → (k : ℕ) → mid.last ≤ k → start.last ≤ k → k ≤ h.last
-    → docket_in (files_at h k) ≡ loaded.docket.items → reading (files_at h k) ≡ Some (Ok recorded)
+pub still_recorded : (start mid h : History) (past : Extends mid h) (loaded : Loaded) (tried : Try) (recorded : Table) → docket_refusal loaded.shown.items ≡ None → Loads start mid (tried ∷ []) (Ok loaded)
+    → data_reading (docket_of loaded.shown.items) loaded.nodes.items ≡ Ok recorded → KeepData h start.last → (k : ℕ) → mid.last ≤ k → start.last ≤ k → k ≤ h.last
+    → shown_in (files_at h k) ≡ loaded.shown.items → reading (files_at h k) ≡ Some (Ok recorded)
 still_recorded start mid h past loaded tried recorded sound loads nodes keep k from since to is =
-    let bytes : List ℕ = loaded.docket.items in
+    let bytes : List ℕ = loaded.shown.items in
     let was = one_load start mid (tried ∷ []) loaded (keep_earlier mid h start.last past keep) loads sound in
     let same : files_at h was.at ≡ files_at mid was.at = (past.stay was.at was.during.to).shown in
-    let docket : docket_in (files_at h was.at) ≡ bytes = ap docket_in same ∙ was.docket in
+    let docket : shown_in (files_at h was.at) ≡ bytes = ap shown_in same ∙ was.docket in
     let front : IsFrontOf (data_in (docket_of bytes) (files_at h k)) (docket_of bytes).used loaded.nodes.items =
     front_later (docket_of bytes) (files_at h was.at) (files_at h k) loaded.nodes.items
     (λ uses. subst (λ (l : List ℕ). HasFront (docket_of l).used (named_file l (files_at h k))) is (keep.there k since to (subst UsesData (sym is) (record { sound = sound; uses = uses }))))

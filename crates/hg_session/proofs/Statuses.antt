@@ -1,20 +1,23 @@
 -- What a status did that ended so, from what was done before the line of its fault, and how that ends.
 use Rattle.std.proofs.Common.{ℕ, ◌≡◌, ◌<◌, Option, Some, None, Result, IfSome, refl, sym, inl, inr, true≢false}
+use Rattle.std.specs.Option.{MatchOption}
 use Rattle.hg_entry.specs.Table.{Table}
 use Rattle.hg_report.specs.declared.fault.Fault.{Fault}
 use Rattle.hg_report.specs.declared.fault.Fault.TheVariants as a_fault
+use Rattle.hg_save.specs.Loads.{Try}
 use Rattle.hg_save.specs.Others.{KeepsRecords}
 use Rattle.hg_session.proofs.Crashes.{crash_safe, lasting}
 use Rattle.hg_session.proofs.Expectations.{expected_by, front_own, whole_own}
-use Rattle.hg_session.proofs.Longer.{concludes_whole, loaded_whole, own_listed, right_some}
+use Rattle.hg_session.proofs.Longer.{concludes_whole, loaded_whole, own_listed, own_whole, right_some}
 use Rattle.hg_session.proofs.Looks.{answer_is, calm_by, joined, looks_by}
+use Rattle.hg_session.proofs.Saves.{saves_by}
 use Rattle.hg_session.specs.Acts.{Makes}
 use Rattle.hg_session.specs.Call.{Call, Count, Looked, Saved, Sink, Watched}
 use Rattle.hg_session.specs.Change.{IsSafe, Stretch}
 use Rattle.hg_session.specs.Flags.{wanted_of}
-use Rattle.hg_session.specs.Look.{Concludes, EndsAs, Look}
+use Rattle.hg_session.specs.Look.{Concludes, EndsAs, IsCalm, Look, fault_in}
 use Rattle.hg_session.specs.Put.{IsFaultOrMemory, OnStream}
-use Rattle.hg_session.specs.Status.{DoesStatus, IsLockedLast, MetSaving, RanStatus, SavesLast, listed_to, noted_in, status_look}
+use Rattle.hg_session.specs.Status.{ByLoaded, ByLoadedFirst, DoesStatus, IsLoadedFirst, IsLockedLast, MetSaving, RanStatus, SavesLast, listed_to, noted_in, status_look}
 use Rattle.hg_session.specs.declared.read_fault.ReadFault.TheVariants as a_read
 use Rattle.hg_session.specs.Saving.{IsNoted, IsNotedHeld, LastsNoted}
 use Rattle.hg_session.specs.Ways.{stood_by}
@@ -29,9 +32,9 @@ pub safe_memory : (Does : Makes) (saved : Saved) (fault : Fault) → IsSafe Does
 safe_memory Does saved fault (inl none) = inl none
 safe_memory Does saved fault (inr (may, is)) = inr (inr (inr refl), is)
 
-saves_memory : (files : Watched History) (saved : Saved) (locks : Count) (table : Option Table) (notes : NotesData) (fault : Fault) → SavesLast files saved locks table notes (Some fault)
-    → SavesLast files saved locks table notes (Some a_fault.OutOfMemory)
-saves_memory files saved locks table notes fault is = record {
+saves_memory : (Own : Try → Type 0) (files : Watched History) (saved : Saved) (locks : Count) (table : Option Table) (notes : NotesData) (fault : Fault) → SavesLast Own files saved locks table notes (Some fault)
+    → SavesLast Own files saved locks table notes (Some a_fault.OutOfMemory)
+saves_memory Own files saved locks table notes fault is = record {
   safe = λ calm. safe_memory (noted_in files table notes) saved fault (is.safe calm);
   idle = is.idle;
   locked = locked_memory table is.locked;
@@ -42,7 +45,7 @@ saves_memory files saved locks table notes fault is = record {
     told_memory : IsFaultOrMemory (Some fault) a_fault.ShelfFailed → IsFaultOrMemory (Some a_fault.OutOfMemory) a_fault.ShelfFailed
     told_memory either = inr refl
 
-    locked_memory : (t : Option Table) → IsLockedLast files saved locks t notes (Some fault) → IsLockedLast files saved locks t notes (Some a_fault.OutOfMemory)
+    locked_memory : (t : Option Table) → IsLockedLast Own files saved locks t notes (Some fault) → IsLockedLast Own files saved locks t notes (Some a_fault.OutOfMemory)
     locked_memory None only = only
     locked_memory (Some t) (inl (due, only)) = inl (tt, only)
     locked_memory (Some t) (inr (inl was)) = absurd (cc was.answer)
@@ -59,6 +62,11 @@ saves_memory files saved locks table notes fault is = record {
             | inr memory ↦ inr refl
           ];
     }))))
+
+-- without a fault the status is 0
+well : (code : ℕ) (fault : Option Fault) → MatchOption fault (code ≡ 0) (λ f. code ≡ 255) → fault ≡ None → code ≡ 0
+well code None is none = is
+well code (Some fault) is none = absurd (cc none)
 
 module _ (command : Command) (flags : StatusFlags) (looked : Looked) (saved : Saved) (locks : Count) (out mid tail : Sink) (bytes : tail.old ≡ mid.new) (count : tail.before ≡ mid.after)
     (done : Result Unit Fault) (code : ℕ) (fault : Option Fault) (does : DoesStatus flags looked saved locks out mid done) (ends : EndsAs tail done code fault) where
@@ -81,25 +89,38 @@ module _ (command : Command) (flags : StatusFlags) (looked : Looked) (saved : Sa
   concludes : Concludes look out call.err fault
   concludes = looks_by mid tail bytes count look out memory_before memory_saving done code fault does.shows ends
 
-  saving : SavesLast looked.shelf saved locks does.table does.notes fault
-  saving = answer_is mid tail bytes count (SavesLast looked.shelf saved locks does.table does.notes) (saves_memory looked.shelf saved locks does.table does.notes) done code fault ends does.saving
+  -- the record that was read, before the caller made a step
+  abbrev loaded : IfSome does.table (IsLoadedFirst looked.shelf)
+  loaded = loaded_whole flags looked saved locks does.table does.end does.passes.past does.later does.passes does.loaded
+
+  -- by its own try
+  abbrev Own : Try → Type 0
+  Own = ByLoadedFirst looked.shelf does.table loaded
+
+  saved_first : SavesLast Own looked.shelf saved locks does.table does.notes (fault_in done)
+  saved_first =
+      saves_by (ByLoaded listed.shelf does.table does.loaded) Own (own_whole flags looked saved locks does.table does.end does.passes.past does.later does.passes does.loaded) looked.shelf saved locks
+      does.table does.notes (fault_in done) does.saving
+
+  saving : SavesLast Own looked.shelf saved locks does.table does.notes fault
+  saving = answer_is mid tail bytes count (SavesLast Own looked.shelf saved locks does.table does.notes) (saves_memory Own looked.shelf saved locks does.table does.notes) done code fault ends saved_first
 
   lasts_noted : (calm : Undisturbed saved.old saved.new) → KeepsRecords others saved.new saved.old.history.last → (t : Table) (stretch : Stretch saved.old.history saved.new.history)
-      (noted : IsNoted looked.shelf.old t does.notes saved stretch.from stretch.to) → LastsNoted looked.shelf.old t does.notes saved stretch.from stretch.to noted
+      (noted : IsNoted Own looked.shelf.old t does.notes saved stretch.from stretch.to) → LastsNoted Own looked.shelf.old t does.notes saved stretch.from stretch.to noted
   lasts_noted calm keep t stretch (inl unsaved) = tt
   lasts_noted calm keep t stretch (inr over) = λ fair.
       lasting saved.old saved.new saving.kept calm keep (stood_by saved.new.history over.tried) t (applied does.notes t) stretch (over.kept fair)
 
   lasts_some : (calm : Undisturbed saved.old saved.new) → KeepsRecords others saved.new saved.old.history.last → (o : Option Table)
-      → IfSome o (λ t. (noted : IsNotedHeld looked.shelf.old t does.notes saved)
-      → LastsNoted looked.shelf.old t does.notes saved (noted calm).0.from (noted calm).0.to (noted calm).1)
+      → IfSome o (λ t. (noted : IsNotedHeld Own looked.shelf.old t does.notes saved)
+      → LastsNoted Own looked.shelf.old t does.notes saved (noted calm).0.from (noted calm).0.to (noted calm).1)
   lasts_some calm keep None = tt
   lasts_some calm keep (Some t) = λ noted. lasts_noted calm keep t (noted calm).0 (noted calm).1
 
   pub ran_status : RanStatus flags call code fault
   ran_status = record {
     table = does.table;
-    loaded = loaded_whole flags looked saved locks does.table does.end does.passes.past does.later does.passes does.loaded;
+    loaded = loaded;
     notes = does.notes;
     looks = concludes_whole flags looked saved locks does.table does.end does.passes.past does.later out call.err does.notes fault concludes;
     whole = λ none own right.
@@ -112,6 +133,7 @@ module _ (command : Command) (flags : StatusFlags) (looked : Looked) (saved : Sa
         expected_by flags listed saved locks out call.err does.notes does.tree does.passes does.table does.loaded fault concludes (own_listed looked does.end does.later own) p q r w;
     tree = does.tree;
     asked = does.asked;
+    reads = does.reads;
     below = does.below;
     needed = does.needed;
     noted = does.noted;
@@ -119,10 +141,18 @@ module _ (command : Command) (flags : StatusFlags) (looked : Looked) (saved : Sa
     saving = saving;
     lasts = λ calm keep. lasts_some calm keep does.table;
     crash = λ calm keep first. crash_safe saved.old saved.new saving.kept calm keep (noted_in looked.shelf does.table does.notes) first fault (saving.safe calm);
-    calm = calm_by mid tail bytes count looked out done code fault ends does.calm;
-    streams =
-        answer_is mid tail bytes count (λ f. OnStream f (looked.shelf.after ≡ looked.shelf.before)) (λ f has is. absurd (true≢false (sym is))) done code fault ends does.streams;
-    tree_failed =
-        answer_is mid tail bytes count (λ f. looked.tree.before < looked.tree.after → IsFaultOrMemory f a_fault.TreeFailed) (λ f has rose. inr refl) done code fault ends (λ rose. inl (does.tree_failed rose));
-    status = ends.status;
+    status = well code fault ends.status;
   }
+
+  -- where a device failed, or a regexp was too big, there is a fault
+  pub status_calm : fault ≡ None → IsCalm looked out call.err
+  status_calm = calm_by mid tail bytes count looked out done code fault ends does.calm
+
+  -- another one than of a stream where the shelf did
+  pub status_streams : OnStream fault (looked.shelf.after ≡ looked.shelf.before)
+  status_streams = answer_is mid tail bytes count (λ f. OnStream f (looked.shelf.after ≡ looked.shelf.before)) (λ f has is. absurd (true≢false (sym is))) done code fault ends does.streams
+
+  -- and that of the working copy where it did
+  pub status_tree : looked.tree.before < looked.tree.after → IsFaultOrMemory fault a_fault.TreeFailed
+  status_tree =
+      answer_is mid tail bytes count (λ f. looked.tree.before < looked.tree.after → IsFaultOrMemory f a_fault.TreeFailed) (λ f has rose. inr refl) done code fault ends (λ rose. inl (does.tree_failed rose))

@@ -1,23 +1,19 @@
 -- The words of `remove`, one after another: what becomes of the working copy, and what is asked below `.hg`.
-use Rattle.std.proofs.Common.{ℕ, zero, suc, ◌≡◌, ◌+◌, ◌<◌, ◌≤◌, ◌*◌, ◌||◌, ◌⊎◌, Bool, true, false, List, [], ◌∷◌, ◌++◌, replicate, length, take, drop, Option, Some, None, Result, Err, IsTrue, codes, inl, inr, refl, sym, ap, ◌∙◌, subst, arith}
+use Rattle.std.proofs.Common.{ℕ, zero, suc, ◌≡◌, ◌+◌, ◌<◌, ◌≤◌, ◌*◌, ◌||◌, ◌⊎◌, Bool, true, false, List, [], ◌∷◌, ◌++◌, replicate, take, drop, Option, Some, Result, Err, IsTrue, codes, inl, inr, refl, sym, ap, ◌∙◌, subst, arith}
 use Rattle.std.specs.List.{AllByRecursion, list_any, slice_get}
 use Rattle.std.specs.Str.{bytes_eq}
 use Rattle.std.proofs.lemmas.Bool.{cases_Bool}
-use Rattle.std.proofs.Math.Seq.{take-length}
 use Rattle.std.proofs.lemmas.List.{append-nil, append_assoc}
 use Rattle.hg_base.specs.Fault.{HasCause, Rose}
 use Rattle.hg_base.specs.PathText.{is_below}
 use Rattle.hg_compare.specs.Same.{InPieces}
 use Rattle.hg_entry.specs.Table.{Table}
-use Rattle.hg_manifest.specs.Load.{asks_of}
 use Rattle.hg_mixed.specs.Held.{Held}
 use Rattle.hg_ops.specs.Cause.{HasOpCause}
-use Rattle.hg_ops.specs.Parent.{AsksStore, HasAsked, HasStoreCause, KeepsParent, Span, upto}
+use Rattle.hg_ops.specs.Parent.{HasStoreCause, Span, upto}
 use Rattle.hg_ops.specs.Remove as one
 use Rattle.hg_ops.specs.Remove.{MetRemoving, NeedsRow, ReadsWord, Takes, may_take, needs_row}
 use Rattle.hg_ops.specs.Step.{IsForgotten}
-use Rattle.hg_ops.specs.declared.parent.Loaded.{Loaded}
-use Rattle.hg_ops.specs.declared.parent.Parent.{Parent}
 use Rattle.hg_ops.specs.declared.refusal.OpFault.{OpFault}
 use Rattle.hg_ops.specs.declared.refusal.OpFault.TheVariants as an_op
 use Rattle.hg_ops.specs.declared.refusal.Refusal.{Refusal}
@@ -28,7 +24,6 @@ use Rattle.hg_session.proofs.SoFar.{SoFar, word_more}
 use Rattle.hg_ops.proofs.Added.{same_table}
 use Rattle.hg_shelf.specs.History as shelf
 use Rattle.hg_shelf.proofs.Histories as shelves
-use Rattle.hg_shelf.specs.declared.asked.Asked as shelf_asks
 use Rattle.hg_tree.specs.History.{Extends, History, Passes}
 use Rattle.hg_tree.specs.Moment.{Things, is_among}
 use Rattle.hg_tree.specs.Touched.{ChangesOnly, TouchesOnly}
@@ -219,20 +214,6 @@ so_far_wide name Part Whole wide start at words old new lines before after so_fa
 }
 
 -- ---- below `.hg`
-
--- what a parent has asked for so far
-pub asks_kept : (s : Span) (parent : Parent) → KeepsParent s parent → IsTrue s.old.told → AsksStore s
-asks_kept s parent keeps told = by_loaded parent.loaded (keeps.asked told)
-  where
-    by_loaded : (loaded : Option Loaded) → HasAsked s loaded → AsksStore s
-    by_loaded None none = record { some = 0; contents = []; asked = none ∙ sym (append-nil s.old.asked) ∙ ap (λ (l : List shelf_asks.Asked). l ++ []) (sym (append-nil s.old.asked)); whole = inl refl; each = tt }
-    by_loaded (Some loaded) whole = record {
-      some = length (asks_of s.id);
-      contents = whole.contents;
-      asked = whole.asked ∙ ap (λ (l : List shelf_asks.Asked). s.old.asked ++ l ++ whole.contents) (sym (take-length (asks_of s.id)));
-      whole = inr refl;
-      each = whole.each;
-    }
 
 -- a stretch that goes on
 pub takes_longer : (after : Bool) (s : Span) (end : shelf.History) → shelf.Extends s.new end → (from to : History) (word : List ℕ) (old : Table) (refused : Option Refusal) (new : Table)

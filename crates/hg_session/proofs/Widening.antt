@@ -20,8 +20,8 @@ use Rattle.hg_save.proofs.Loads.{found_longer, last_within, tries_longer}
 use Rattle.hg_save.proofs.Published.{keeps_longer}
 use Rattle.hg_save.specs.Leads.{IsHeld}
 use Rattle.hg_save.specs.Loads.{IsTry, Tries, Try, files_at, found_by, id_by}
-use Rattle.hg_save.specs.Others.{IsFrontOf, named_file}
-use Rattle.hg_save.specs.Record.{data_name, docket_in, id_in, reading}
+use Rattle.hg_save.specs.Others.{IsFrontOf, named_file, nodes_in}
+use Rattle.hg_save.specs.Record.{data_name, shown_in, id_in, reading}
 use Rattle.hg_save.specs.Saved.{IsExact, IsLatest, ReadsAsBeforeOr, WritesOnly, name_after, used_in}
 use Rattle.hg_save.specs.Behind.{IsSolid}
 use Rattle.hg_session.specs.Acts.{Makes}
@@ -164,9 +164,6 @@ module _ (a b c d : Course) (lock : Waits a.history b.history) (unlock : Waits c
         };
       }
 
-  pub read_some_wide : (IsTrue b.history.told → (loaded : Table) × IsReadFirst b.history c.history loaded) → IsTrue a.history.told → (loaded : Table) × IsReadFirst a.history d.history loaded
-  read_some_wide is told = let read = is (p.past.told ∙ told) in (read.0, read_wide read.0 read.1)
-
   -- what became of the working copy behind it
   pub changes_wide : (command : Command) (copy : Watched tree.History) → ChangesBehind command copy (record { old = b.history; new = c.history; before = 0; after = 0 })
       → ChangesBehind command copy (record { old = a.history; new = d.history; before = 0; after = 0 })
@@ -194,7 +191,7 @@ module _ (a b c d : Course) (lock : Waits a.history b.history) (unlock : Waits c
   stood_wide tried first second =
       let docket : files_at d.history tried.docket ≡ files_at c.history tried.docket = (r.past.stay tried.docket first).shown in
       let file : files_at d.history tried.file ≡ files_at c.history tried.file = (r.past.stay tried.file second).shown in
-      λ i. record { docket = docket_in (docket i); file = named_file (docket_in (docket i)) (file i) }
+      λ i. record { docket = shown_in (docket i); file = named_file (shown_in (docket i)) (file i) }
 
   written_wide : (stood : Stood) (made found : Table) (from to : ℕ) → from ≤ c.history.last → to ≤ c.history.last → IsWritten stood made found (scene c from).files (scene c to)
       → IsWritten stood made found (scene d from).files (scene d to)
@@ -274,9 +271,9 @@ module _ (a b c d : Course) (lock : Waits a.history b.history) (unlock : Waits c
           loaded = is.loaded;
           there = λ fair. stands_later c d r from near is.loaded (is.there (wide.fair c.history d.history r.past from near fair));
           held = is.held;
-          docket = is.docket ∙ ap (λ (f : Files). docket_of (docket_in f)) (sym (to_end from near).shown);
+          docket = is.docket ∙ ap (λ (f : Files). docket_of (shown_in f)) (sym (to_end from near).shown);
           nodes = λ fair.
-              subst (λ (f : Files). 0 < is.held.docket.used → IsFrontOf (named_file (docket_in f) f) is.held.docket.used is.held.bytes) (sym (to_end from near).shown)
+              subst (λ (f : Files). 0 < is.held.docket.used → IsFrontOf (nodes_in f) is.held.docket.used is.held.bytes) (sym (to_end from near).shown)
               (is.nodes (wide.fair c.history d.history r.past from near fair));
           lends = is.lends;
           made = is.made;

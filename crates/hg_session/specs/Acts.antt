@@ -4,7 +4,6 @@ use Rattle.std.specs.List.{AllByRecursion}
 use Rattle.std.specs.declared.alloc.Global.{Global}
 use Rattle.hg_base.specs.Fault.{HasCause}
 use Rattle.hg_entry.specs.Table.{Table}
-use Rattle.hg_manifest.specs.Load.{asks_of}
 use Rattle.hg_mixed.specs.Edits.{IsOfSameImage}
 use Rattle.hg_nodes.specs.Edits.{IsSame}
 use Rattle.hg_mixed.specs.Held.{Held, table}
@@ -23,10 +22,9 @@ use Rattle.hg_report.specs.Refusal.{refusal_line}
 use Rattle.hg_save.specs.Record.{reading}
 use Rattle.hg_session.specs.Call.{Fails, IsLeftAlone, Watched}
 use Rattle.hg_session.specs.Kept.{KeepsLent}
-use Rattle.hg_session.specs.Manifests.{IsReparented, StopsParents}
+use Rattle.hg_session.specs.Manifests.{AsksManifests, IsReparented, StopsParents}
 use Rattle.hg_session.specs.declared.acting.Changing.{Changing}
 use Rattle.hg_session.specs.declared.acting.Changing.TheVariants as a_change
-use Rattle.hg_shelf.specs.Asks.{AsksFrontOf}
 use Rattle.hg_shelf.specs.History as shelf
 use Rattle.hg_shelf.specs.Images.{Course, scene}
 use Rattle.hg_tree.specs.History as tree
@@ -278,7 +276,7 @@ ChangesTree command loaded copy = IsLeftAlone copy
 -- name; for new parents their manifests, the first before the second; and else nothing
 abbrev pub AsksBehind : Command → Watched tree.History → Table → shelf.History → shelf.History → Type 0
 AsksBehind (a_command.Remove after words) copy loaded old new = (new.asked ≡ old.asked) ⊎ (NeedsSome after words loaded copy × AsksStore (span_of loaded old new))
-AsksBehind (a_command.SetParents p1 p2) copy loaded old new = AsksFrontOf (asks_of p1 ++ asks_of p2) old new
+AsksBehind (a_command.SetParents p1 p2) copy loaded old new = AsksManifests p1 p2 old new
 AsksBehind command copy loaded old new = new.asked ≡ old.asked
 
 -- ---- over a table in memory

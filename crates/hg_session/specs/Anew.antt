@@ -35,7 +35,7 @@ LoadsOrRefuses old new tries (Err fault) = Refuses old new tries fault
 pub record IsOpened (loaded : Loaded) (recorded : Table) (opened : Held) : Type 0 where
   pub same : IsSame (table opened) recorded
   pub unchanged : opened.changed ≡ false
-  pub contents : opened.docket ≡ docket_of loaded.docket.items
+  pub contents : opened.docket ≡ docket_of loaded.shown.items
   pub nodes : opened.bytes ≡ loaded.nodes.items
   pub image : IsSame (table opened) (image_table opened)
   pub lent : (dir : Option (List ℕ)) → is_lent opened dir ≡ has_list (rows_of opened.docket opened.bytes) dir

@@ -31,11 +31,16 @@ pub record IsIdle (looked : Looked) (saved : Saved) (locks : Count) (out : Sink)
   pub regexps : looked.oversize.after ≡ looked.oversize.before
   pub silent : IsSilent out
 
--- what is done for a command that isn't carried out: it is answered as not built, whatever else holds, and its line is told
+-- a fault was met before anything was done: its line is told, and nothing else is done
+pub record IsUndone (met : Fault) (looked : Looked) (saved : Saved) (locks : Count) (out err : Sink) (code : ℕ) (fault : Option Fault) : Type 0 where
+  pub answered : IsFaultOrMemory fault met
+  pub told : IfSome fault (Tells err)
+  pub idle : IsIdle looked saved locks out
+  pub status : code ≡ 255
+
+-- a command that isn't carried out is answered as not built, whatever else holds
 pub record IsUnbuilt (call : Call) (code : ℕ) (fault : Option Fault) : Type 0 where
-  pub answered : IsFaultOrMemory fault a_fault.NotBuilt
-  pub told : IfSome fault (Tells call.err)
-  pub idle : IsIdle call.looked call.saved call.locks call.out
+  pub undone : IsUndone a_fault.NotBuilt call.looked call.saved call.locks call.out call.err code fault
   pub look : IsLook call code fault
 
 -- what a command did that ended with this status and this fault, or with none

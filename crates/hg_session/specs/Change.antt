@@ -18,8 +18,8 @@ use Rattle.hg_append.specs.declared.fault.EncodeFault.TheVariants as an_encode_f
 use Rattle.hg_report.specs.Cause.{of_encode, of_op}
 use Rattle.hg_report.specs.declared.fault.Fault.{Fault}
 use Rattle.hg_report.specs.declared.fault.Fault.TheVariants as a_fault
-use Rattle.hg_save.specs.Others.{IsFrontOf, KeepsRecords, named_file}
-use Rattle.hg_save.specs.Record.{data_name, docket_in, reading}
+use Rattle.hg_save.specs.Others.{IsFrontOf, KeepsRecords, named_file, nodes_in}
+use Rattle.hg_save.specs.Record.{data_name, shown_in, reading}
 use Rattle.hg_save.specs.Saved.{IsExact, IsLatest, ReadsAsBeforeOr, WritesOnly}
 use Rattle.hg_save.specs.Behind.{IsSolid, KeepsUsed}
 use Rattle.hg_session.specs.Acts.{AsksBehind, ChangesTree, Makes, StandsAt, makes_of}
@@ -97,9 +97,9 @@ pub record IsPublished (Does : Makes) (c : Course) (from to : ℕ) : Type 0 wher
   pub there : Does.fair c.history from → StandsAt c from loaded
   -- the table in memory, over the docket that stood
   pub held : Held
-  pub docket : held.docket ≡ docket_of (docket_in (scene c from).files)
+  pub docket : held.docket ≡ docket_of (shown_in (scene c from).files)
   -- and over the data file; its lists are lent exactly where nothing differs below: so the way that is planned is one
-  pub nodes : Does.fair c.history from → 0 < held.docket.used → IsFrontOf (named_file (docket_in (scene c from).files) (scene c from).files) held.docket.used held.bytes
+  pub nodes : Does.fair c.history from → 0 < held.docket.used → IsFrontOf (named_file (shown_in (scene c from).files) (scene c from).files) held.docket.used held.bytes
   pub lends : LendsUnchanged held
   pub made : Table
   pub same : IsSame (table held) made
@@ -140,14 +140,14 @@ pub record IsWritten (stood : Stood) (made found : Table) (before : shelf.Files)
   -- they are the encoding of a table in memory over that record, whose docket stood
   pub held : Held
   pub over : IsMadeOver stood made held
-  pub docket : held.docket ≡ docket_of (docket_in before)
+  pub docket : held.docket ≡ docket_of (shown_in before)
   pub is : IsEncoded held new found
   pub shown : IsExact new before behind.files
   pub left : (f : shelf.Files) → behind.leaves f → IsExact new before f
   -- where they were written anew, the data file that the docket named is gone
   pub gone : plan_of held ≡ a_way.Rewrite → (held.docket.id ≡ [] → ⊥) → behind.files (data_name held.docket.id) ≡ None
   -- and where behind, that stays: it is the one that the table was read from, and each of its lists below which nothing differs lies where it lay
-  pub nodes : plan_of held ≡ a_way.Append → 0 < held.docket.used → IsFrontOf (named_file (docket_in before) before) held.docket.used held.bytes
+  pub nodes : plan_of held ≡ a_way.Append → 0 < held.docket.used → IsFrontOf (nodes_in before) held.docket.used held.bytes
   pub kept_lists : plan_of held ≡ a_way.Append → KeepsUnchanged held behind.files
   pub kept_left : plan_of held ≡ a_way.Append → (f : shelf.Files) → behind.leaves f → KeepsUnchanged held f
 
@@ -249,14 +249,6 @@ MetChanging Does copy files (a_change_fault.Encode an_encode_fault.OutOfMemory) 
 MetChanging Does copy files (a_change_fault.Encode fault) = MetUnfit Does files fault
 MetChanging Does copy files a_change_fault.Held = ⊥
 MetChanging Does copy files a_change_fault.ShelfFailed = Fails files × (IsLeftAlone copy ⊎ MetMade Does files)
-
--- a fault that is met before the working copy is looked at: what stood in the files, or a lock that was refused
-abbrev pub IsEarly : Fault → Type 0
-IsEarly (a_fault.Docket fault) = Unit {0}
-IsEarly (a_fault.Node fault) = Unit {0}
-IsEarly (a_fault.DataGone ids) = Unit {0}
-IsEarly a_fault.Held = Unit {0}
-IsEarly fault = ⊥
 
 -- or a lock that was refused
 abbrev pub MetLocking : Makes → Watched tree.History → Watched shelf.History → Count → ChangeFault → Type 0

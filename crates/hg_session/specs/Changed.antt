@@ -1,5 +1,5 @@
 -- What the commands that change the record promise.
-use Rattle.std.specs.Prelude.{ℕ, Bool, true, false, ◌≡◌, ◌⊎◌, ◌<◌, List, [], ◌∷◌, Option, Some, None, Ok, IsTrue, IsSomeAnd}
+use Rattle.std.specs.Prelude.{ℕ, Bool, true, false, ◌≡◌, ◌⊎◌, ◌<◌, List, [], ◌∷◌, Option, Some, None, Ok, IsTrue}
 use Rattle.hg_append.specs.declared.fault.EncodeFault.{EncodeFault}
 use Rattle.hg_append.specs.declared.fault.EncodeFault.TheVariants as an_encode_fault
 use Rattle.hg_base.specs.Fault.{IsSteady}
@@ -13,11 +13,11 @@ use Rattle.hg_save.specs.Others.{KeepsRecords}
 use Rattle.hg_save.specs.Record.{reading}
 use Rattle.hg_save.specs.Saved.{IsLatest}
 use Rattle.hg_session.specs.Acts.{Makes}
-use Rattle.hg_session.specs.Call.{Call, IsLeftAlone, Looked, Serves}
-use Rattle.hg_session.specs.Change.{AsksChange, ChangesBehind, IsDone, IsEarly, IsLocked, IsReadSome, IsSafe, IsUnwritten, MetChanging, MetLocking, Stretch, makes_in, of_change}
+use Rattle.hg_session.specs.Call.{Call, Looked, Serves}
+use Rattle.hg_session.specs.Change.{AsksChange, ChangesBehind, IsDone, IsLocked, IsSafe, IsUnwritten, MetChanging, MetLocking, Stretch, makes_in, of_change}
 use Rattle.hg_session.specs.Loaded.{IsUnreadable}
 use Rattle.hg_session.specs.Look.{Look, Concludes, saves_first}
-use Rattle.hg_session.specs.Put.{IsEmpty, IsFaultOrMemory, IsSilent, OnStream}
+use Rattle.hg_session.specs.Put.{IsEmpty, IsFaultOrMemory, IsSilent}
 use Rattle.hg_session.specs.Crash.{IsCrashSafe, IsFirmFor, IsLasting, published_in}
 use Rattle.hg_session.specs.Ways.{Fits, IsUnfit, stood_in}
 use Rattle.hg_session.specs.declared.change_fault.ChangeFault.{ChangeFault}
@@ -126,24 +126,14 @@ pub record RanChange (call : Call) (status : ℕ) (fault : Option Fault) : Type 
       → IsFirmFor (makes_in call) call.saved fault (safe calm) → IsCrashSafe (published_in (makes_in call) call.saved fault (safe calm)) call.saved
   -- a lock that was refused is told as such
   pub held : call.locks.before < call.locks.after → IsFaultOrMemory fault a_fault.Held
-  -- and so is a tree that failed, whatever else failed behind it
-  pub tree : call.looked.tree.before < call.looked.tree.after → IsFaultOrMemory fault a_fault.TreeFailed
   -- where nobody else steps, no count rises and no lock is refused, the answer is the expected one, or there was no memory
   pub complete : IsQuietFor call.command call.looked → Serves call.err → IsSteady call.locks.before call.locks.after
       → IsExpectedChange (makes_in call) (shelf.now call.looked.shelf.old).files fault
-  -- where a device failed there is a fault, and another one than of a stream where the shelf did
-  pub calm_tree : fault ≡ None → call.looked.tree.after ≡ call.looked.tree.before
-  pub calm_shelf : fault ≡ None → call.looked.shelf.after ≡ call.looked.shelf.before
-  pub streams : OnStream fault (call.looked.shelf.after ≡ call.looked.shelf.before)
-  pub calm_err : fault ≡ None → call.err.after ≡ call.err.before
   -- nothing is printed, and no regexp compiled
   pub silent : IsSilent call.out
   pub uncounted : call.looked.oversize.after ≡ call.looked.oversize.before
   -- what becomes of the working copy, whatever was answered
   pub copy : ChangesBehind call.command call.looked.tree call.looked.shelf
-  -- it is looked at only behind a record that was read
-  pub behind : IsLeftAlone call.looked.tree ⊎ IsReadSome call.looked.shelf
-  pub early : IsSomeAnd fault IsEarly → IsLeftAlone call.looked.tree
   -- below `.hg` it asks for the record, and behind it for what its command needs
   pub asked : IsTrue call.looked.shelf.old.told → AsksChange call.command call.looked.tree call.looked.shelf.old call.looked.shelf.new
   -- what was so far stays

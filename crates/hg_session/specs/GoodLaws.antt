@@ -9,18 +9,18 @@ use Rattle.hg_session.specs.Call.{Count, Looked, Saved, Sink, Watched, saved_by}
 use Rattle.hg_session.specs.Good.{IsGoodIn, KeepsGood}
 use Rattle.hg_shelf.specs.History as shelf
 use Rattle.hg_shelf.specs.Images.{Images}
-use Rattle.hg_shelf.specs.Polite.{KeepsPlain}
+use Rattle.hg_shelf.specs.Polite.{StaysPlain}
 use Rattle.hg_tree.specs.History as tree
 use Rattle.hg_walk.specs.Notes.{AreEarned, NotesData, applied}
 use Rattle.hg_walk.specs.Walking.{rows_in}
 use Rattle.hg_words.specs.declared.given.Command.{Command}
 
--- what a command that changes the record makes of a good one is good, where the plain store doesn't change
+-- what a command that changes the record makes of a good one is good, by each store whose bytes the files of the plain store have wherever they are there
 abbrev pub MadeIsGood : Type 0
 MadeIsGood =
-    (command : Command) (copy : Watched tree.History) (files : Watched shelf.History) → shelf.Extends files.old files.new → IsTrue files.old.told → KeepsPlain files.new files.old.last
+    (command : Command) (copy : Watched tree.History) (files : Watched shelf.History) (store : shelf.Files) → shelf.Extends files.old files.new → IsTrue files.old.told → StaysPlain store files.new files.old.last
     → (h : tree.History) (loaded made : Table) (lines : List ℕ) (changed : Bool) → (makes_of command copy files).does loaded made lines changed
-    → IsGoodIn (shelf.now files.old).files loaded h → IsGoodIn (shelf.now files.old).files made h
+    → IsGoodIn store loaded h → IsGoodIn store made h
 
 -- and so is a good one with notes that are earned by a later moment of the working copy
 abbrev pub NotedIsGood : Type 0

@@ -8,6 +8,7 @@ pub mod Changed
 pub mod Commands
 pub mod Crash
 pub mod Debug
+pub mod Ends
 pub mod Flags
 pub mod Good
 pub mod GoodLaws

@@ -5,7 +5,9 @@ use Rattle.hg_base.specs.declared.id.Id20.{Id20}
 use Rattle.hg_entry.specs.Table.{Table, flat_of}
 use Rattle.hg_flat.specs.Asked.{AsksAll, AsksBehind, AsksNothing, IsListedDir, pattern_reads}
 use Rattle.hg_listing.specs.Full.{IsFull, IsFullFor}
+use Rattle.hg_flat.specs.First.{MetFirst}
 use Rattle.hg_flat.specs.Met.{Met, Status}
+use Rattle.hg_flat.specs.Needed.{AsksNeeded}
 use Rattle.hg_flat.specs.Parent.{Asking, IsAsked, IsServed}
 use Rattle.hg_flat.specs.Patterns.{HadPatterns, ignored_at, is_of_parent}
 use Rattle.hg_flat.specs.Stored.{AsksStore}
@@ -41,20 +43,20 @@ IsRightFor looked table =
 
 -- ---- paths that are left alone
 
--- nobody touches the path during the call, nor what the first parent has of it where it is compared, nor the ignore patterns where they
--- decide its letter
-abbrev pub IsUntouched : Looked → Wanted → Table → List ℕ → Type 0
-IsUntouched looked wanted table = IsLeftBy wanted table looked.tree.new looked.tree.old.last looked.shelf.new looked.shelf.old.last
+-- nobody touches the path during the call, nor the ignore patterns where they decide its letter, and what the first parent has of it where it is compared is a
+-- store's, wherever it is there: what is absent may come
+abbrev pub IsUntouched : shelf.Files → Looked → Wanted → Table → List ℕ → Type 0
+IsUntouched store looked wanted table = IsLeftBy store wanted table looked.tree.new looked.tree.old.last looked.shelf.new looked.shelf.old.last
 
 -- a path is compared at a moment
 abbrev pub IsAskedAt : Wanted → Table → Moment → List ℕ → Type 0
 IsAskedAt wanted table moment path = IsAsked (asking wanted table) moment path
 
--- what the comparisons of a listing ask for was there at the start of the call, for each path that is left alone
+-- what the comparisons of a listing ask for is there in each store that it is of, for each path that is left alone
 abbrev pub IsServedFor : Looked → Wanted → Table → Type 0
 IsServedFor looked wanted table =
-    (path : List ℕ) → IsUntouched looked wanted table path → IsAskedAt wanted table (tree.now looked.tree.old) path
-    → IsServed (shelf.now looked.shelf.old).files (first_parent table) (tree.now looked.tree.old) path
+    (store : shelf.Files) (path : List ℕ) → IsUntouched store looked wanted table path → IsAskedAt wanted table (tree.now looked.tree.old) path
+    → IsServed store (first_parent table) (tree.now looked.tree.old) path
 
 -- a listing over a table met no fault: the ignore patterns were read and fine where they are needed, and what was compared was there
 pub record IsListable (looked : Looked) (wanted : Wanted) (table : Table) : Type 0 where
@@ -67,10 +69,12 @@ pub record IsListable (looked : Looked) (wanted : Wanted) (table : Table) : Type
 abbrev pub status_over : Looked → Wanted → Table → Status
 status_over looked wanted table = walk_status wanted table looked.tree.old looked.tree.new looked.shelf.old looked.shelf.new
 
--- a status over a table met this fault; one of the first parent was met behind patterns that were fine
+-- a status over a table met this fault; one of the first parent was met behind patterns that were fine, and of several contents that were absent those of the
+-- first path
 pub record StatusMet (looked : Looked) (wanted : Wanted) (table : Table) (fault : StatusFault) : Type 0 where
   pub behind : is_of_parent fault ≡ true → HadPatterns wanted looked.tree.old looked.tree.new
   pub met : Met (status_over looked wanted table) fault
+  pub first : MetFirst (status_over looked wanted table) fault
 
 -- of a status over a table: a device that failed, or what stood in the files or at the root; and that no earlier fault was found. Want of memory needs
 -- no reason
@@ -84,12 +88,12 @@ StatusCause looked wanted table fault = StatusMet looked wanted table fault
 
 -- ---- the rows
 
--- where recorded times are right, the rows are for paths that are left alone the full listing at the start of the call, by a table, what the files at the
--- start of the call have of its first parent, and the ignore patterns there
+-- where recorded times are right by a store, the rows are for paths that are left alone the full listing at the start of the call, by a table, what the store
+-- has of its first parent, and the ignore patterns there
 abbrev pub IsListedFor : Looked → Wanted → List Row → Table → Type 0
 IsListedFor looked wanted rows table =
-    IsRightFor looked table
-    → IsFullFor (IsUntouched looked wanted table) (flat_of table) (tree.now looked.tree.old) (rows_in table (shelf.now looked.shelf.old).files) (ignored_at (tree.now looked.tree.old)) wanted rows
+    (store : shelf.Files) → AreRight (rows_in table store) table looked.tree.old looked.tree.new
+    → IsFullFor (IsUntouched store looked wanted table) (flat_of table) (tree.now looked.tree.old) (rows_in table store) (ignored_at (tree.now looked.tree.old)) wanted rows
 
 -- the rows are the full listing of the working copy at a moment, by the table in these files, its first parent there, and the ignore patterns of that moment
 pub record IsListed (files : shelf.Files) (moment : Moment) (wanted : Wanted) (rows : List Row) : Type 0 where
@@ -123,6 +127,12 @@ AsksOwn looked wanted table =
 -- rows of such paths name
 abbrev pub AsksPlain : Looked → Wanted → Table → shelf.History → shelf.History → Type 0
 AsksPlain looked wanted table old new = AsksStore (walk_status wanted table looked.tree.old looked.tree.new old new)
+
+-- it was asked nothing, or the bytes of each path in one comparison at most, and only where neither kind, executable bit nor size decide its letter by the table
+-- that was read
+abbrev pub ReadsLittle : Looked → Wanted → Option Table → Type 0
+ReadsLittle looked wanted table =
+    IsTrue looked.tree.old.told → AsksNothing looked.tree.old looked.tree.new ⊎ IsSomeAnd table (λ t. AsksNeeded (status_over looked wanted t))
 
 -- below `.hg` the record was asked for; behind it nothing, or what a listing over the table that was read asks of the plain store; and behind that, where
 -- times were to be saved, the docket once more

@@ -1,5 +1,5 @@
 -- What was read of the record, and what reading it answers, by what a load found.
-use Rattle.std.specs.Prelude.{ℕ, ◌≡◌, List, ◌∷◌, map, Option, Some, None, Result, Ok, Err, IsTrue, Vec}
+use Rattle.std.specs.Prelude.{ℕ, ◌≤◌, ◌≡◌, List, ◌∷◌, map, Option, Some, None, Result, Ok, Err, IsTrue, Vec}
 use Rattle.std.specs.List.{AllByRecursion}
 use Rattle.std.specs.declared.alloc.Global.{Global}
 use Rattle.hg_entry.specs.Table.{Table}
@@ -11,7 +11,7 @@ use Rattle.hg_report.specs.declared.fault.Fault.{Fault}
 use Rattle.hg_report.specs.declared.fault.Fault.TheVariants as a_session_fault
 use Rattle.hg_save.specs.Asked.{docket_ask, named_asks}
 use Rattle.hg_save.specs.Loads.{During, Tries, Try, files_at, found_by, id_by}
-use Rattle.hg_save.specs.Record.{docket_in, id_in, record_in}
+use Rattle.hg_save.specs.Record.{shown_in, id_in, record_in}
 use Rattle.hg_session.specs.Call.{Fails, Watched}
 use Rattle.hg_session.specs.declared.read_fault.ReadFault.{ReadFault}
 use Rattle.hg_session.specs.declared.read_fault.ReadFault.TheVariants as a_fault
@@ -34,12 +34,15 @@ IsLoaded files table = IsTrue files.old.told → IsRead files.old files.new tabl
 abbrev pub WasLoaded : Watched History → Type 0
 WasLoaded files = IsTrue files.old.told → (table : Table) × IsRead files.old files.new table
 
--- the files below `.hg` were asked for no more than a load asks for: the docket as it stood at a moment of the call, and the data file that it names,
--- each once
+-- the files below `.hg` were asked for no more than a load asks for: the docket as it stood at a moment of the call, and the data file that it names, each
+-- once, and of this one for no more bytes than are used, nor than it had at that moment or a later one
 pub record AsksRecord (old new : History) : Type 0 where
   pub at : ℕ
   pub during : During old new at
-  pub asks : AsksFrontOf (docket_ask ∷ named_asks (docket_in (files_at new at))) old new
+  pub seen : ℕ
+  pub later : at ≤ seen
+  pub upto : seen ≤ new.last
+  pub asks : AsksFrontOf (docket_ask ∷ named_asks (shown_in (files_at new at)) (files_at new seen)) old new
 
 -- ---- what reading it answers
 

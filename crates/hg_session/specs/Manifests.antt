@@ -1,8 +1,8 @@
 -- The manifests that a command loads to set the parents.
-use Rattle.std.specs.Prelude.{◌≡◌, ◌⊎◌, Bool, false, List, [], ℕ, Result, Ok, Err, MatchBool}
+use Rattle.std.specs.Prelude.{◌≡◌, ◌⊎◌, Bool, false, List, [], ◌++◌, ℕ, Option, Result, Ok, Err, MatchBool}
 use Rattle.hg_base.specs.declared.id.Id20.{Id20}
 use Rattle.hg_entry.specs.Table.{Table}
-use Rattle.hg_manifest.specs.Load.{Finds}
+use Rattle.hg_manifest.specs.Load.{Finds, Was, asks_of}
 use Rattle.hg_manifest.specs.Plain.{is_null, plain_name}
 use Rattle.hg_manifest.specs.Rows.{Rows}
 use Rattle.hg_manifest.specs.declared.fault.ManifestFault.{ManifestFault}
@@ -12,6 +12,7 @@ use Rattle.hg_ops.specs.Parents.{HasParents}
 use Rattle.hg_ops.specs.declared.refusal.OpFault.{OpFault}
 use Rattle.hg_ops.specs.declared.refusal.OpFault.TheVariants as an_op_fault
 use Rattle.hg_session.specs.Call.{Watched}
+use Rattle.hg_shelf.specs.Asks.{AsksFrontOf}
 use Rattle.hg_shelf.specs.History.{Extends, History}
 
 -- a load of an identifier's manifest answered this; the null parent has no file and no rows
@@ -25,6 +26,14 @@ pub record LoadsRows (files : Watched History) (id : Id20) (answer : Result Rows
   pub before : Extends files.old old
   pub behind : Extends new files.new
   pub answers : Answers old new id answer
+
+-- both manifests were asked for, or a front of that: the first before the second, and of each as many bytes as its file had at a moment
+pub record AsksManifests (p1 p2 : Id20) (old new : History) : Type 0 where
+  pub first : Option (List ℕ)
+  pub second : Option (List ℕ)
+  pub first_was : Was old new (plain_name p1.0) (λ f. f ≡ first)
+  pub second_was : Was old new (plain_name p2.0) (λ f. f ≡ second)
+  pub asks : AsksFrontOf (asks_of p1 first ++ asks_of p2 second) old new
 
 -- new parents were set by the manifests of both, as they were loaded in the call; no line is told, and nothing was changed exactly where the
 -- record is the same

@@ -69,7 +69,7 @@ pub record IsOpenedSince (start now : History) (loaded : Loaded) (recorded : Tab
   pub front : Extends start mid
   pub past : Extends mid now
   pub loads : IsTrue start.told → (tried : Try) × Loads start mid (tried ∷ []) (Ok loaded)
-  pub nodes : data_reading (docket_of loaded.docket.items) loaded.nodes.items ≡ Ok recorded
+  pub nodes : data_reading (docket_of loaded.shown.items) loaded.nodes.items ≡ Ok recorded
   pub same : IsSame (table opened) recorded
   pub image : IsSame (table opened) (image_table opened)
   pub lent : (dir : Option (List ℕ)) → is_lent opened dir ≡ has_list (rows_of opened.docket opened.bytes) dir
@@ -84,9 +84,14 @@ noted_makes files recorded notes = record {
   fair = λ h at. KeepData (up_to at h) files.old.last;
 }
 
--- between two moments another docket stood than the one that was read with the record since a start
-pub record AnotherStood (start new : History) (recorded : Table) (from to : ℕ) : Type 0 where
+-- the try that read the record from which a table in memory was opened
+abbrev pub IsTryOf : (start now : History) (loaded : Loaded) (recorded : Table) (opened : Held) → IsOpenedSince start now loaded recorded opened → Try → Type 0
+IsTryOf start now loaded recorded opened since tried = (told : IsTrue start.told) × (tried ≡ (since.loads told).1.tried.last)
+
+-- between two moments another docket stood than the one that was read with the record since a start, by the record's own try
+pub record AnotherStood (Own : Try → Type 0) (start new : History) (recorded : Table) (from to : ℕ) : Type 0 where
   pub tried : Try
+  pub own : Own tried
   pub within : IsTry start new tried
   pub found : found_by new tried ≡ Some (Ok recorded)
   pub at : ℕ
@@ -94,9 +99,10 @@ pub record AnotherStood (start new : History) (recorded : Table) (from to : ℕ)
   pub upto : at ≤ to
   pub other : docket_in (files_at new at) ≡ docket_in (files_at new tried.docket) → ⊥
 
--- the record that a try found, which was made since a start, can't be written with notes, for a fault that isn't want of memory
-pub record CannotWrite (start new : History) (recorded : Table) (notes : NotesData) : Type 0 where
+-- the record that its own try found, which was made since a start, can't be written with notes, for a fault that isn't want of memory
+pub record CannotWrite (Own : Try → Type 0) (start new : History) (recorded : Table) (notes : NotesData) : Type 0 where
   pub tried : Try
+  pub own : Own tried
   pub within : IsTry start new tried
   pub found : found_by new tried ≡ Some (Ok recorded)
   pub fault : EncodeFault
@@ -104,14 +110,15 @@ pub record CannotWrite (start new : History) (recorded : Table) (notes : NotesDa
   pub unfit : IsUnfit (stood_by new tried) (applied notes recorded) fault
 
 -- why nothing was to be saved between two moments: another docket stood, the record can't be written, or the notes say what it says
-abbrev pub IsUnsaved : History → Table → NotesData → Saved → ℕ → ℕ → Type 0
-IsUnsaved start recorded notes saved from to =
-    AnotherStood start saved.new.history recorded from to
-    ⊎ (CannotWrite start saved.new.history recorded notes ⊎ IsSame (applied notes recorded) recorded)
+abbrev pub IsUnsaved : (Try → Type 0) → History → Table → NotesData → Saved → ℕ → ℕ → Type 0
+IsUnsaved Own start recorded notes saved from to =
+    AnotherStood Own start saved.new.history recorded from to
+    ⊎ (CannotWrite Own start saved.new.history recorded notes ⊎ IsSame (applied notes recorded) recorded)
 
 -- the record with the notes is what is recorded then, and by what a crash leaves; where it was appended, others were asked to keep what was read
-pub record IsNotedOver (start : History) (recorded : Table) (notes : NotesData) (saved : Saved) (from to : ℕ) : Type 0 where
+pub record IsNotedOver (Own : Try → Type 0) (start : History) (recorded : Table) (notes : NotesData) (saved : Saved) (from to : ℕ) : Type 0 where
   pub tried : Try
+  pub own : Own tried
   pub within : IsTry start saved.new.history tried
   pub found : found_by saved.new.history tried ≡ Some (Ok recorded)
   pub held : Held
@@ -119,27 +126,27 @@ pub record IsNotedOver (start : History) (recorded : Table) (notes : NotesData) 
   pub kept : (plan_of held ≡ a_way.Append → KeepData (up_to from saved.new.history) start.last) → IsKept (stood_by saved.new.history tried) recorded (applied notes recorded) saved from to
 
 -- nothing was to be saved between two moments, and nothing was written; or the record with the notes is what is recorded then, and by what a crash leaves
-abbrev pub IsNoted : History → Table → NotesData → Saved → ℕ → ℕ → Type 0
-IsNoted start recorded notes saved from to =
-    (IsUnsaved start recorded notes saved from to × IsUnwritten saved.old.history saved.new.history) ⊎ IsNotedOver start recorded notes saved from to
+abbrev pub IsNoted : (Try → Type 0) → History → Table → NotesData → Saved → ℕ → ℕ → Type 0
+IsNoted Own start recorded notes saved from to =
+    (IsUnsaved Own start recorded notes saved from to × IsUnwritten saved.old.history saved.new.history) ⊎ IsNotedOver Own start recorded notes saved from to
 
 -- from the second moment to the call's end, whatever a crash leaves records what was saved, or what others published since; where it was appended, others were
 -- asked to keep what was read
-abbrev pub LastsNoted : (start : History) (recorded : Table) (notes : NotesData) (saved : Saved) (from to : ℕ) → IsNoted start recorded notes saved from to → Type 0
-LastsNoted start recorded notes saved from to (inl unsaved) = Unit {0}
-LastsNoted start recorded notes saved from to (inr over) =
+abbrev pub LastsNoted : (Own : Try → Type 0) (start : History) (recorded : Table) (notes : NotesData) (saved : Saved) (from to : ℕ) → IsNoted Own start recorded notes saved from to → Type 0
+LastsNoted Own start recorded notes saved from to (inl unsaved) = Unit {0}
+LastsNoted Own start recorded notes saved from to (inr over) =
     (fair : plan_of over.held ≡ a_way.Append → KeepData (up_to from saved.new.history) start.last)
     → IsLasting (stood_by saved.new.history over.tried) recorded (applied notes recorded) saved from to (over.kept fair)
 
 -- so it is where the lock is held all along, and where others only read meanwhile
-pub record SavesHeld (start : History) (files : Watched History) (saved : Saved) (recorded : Table) (notes : NotesData) (fault : Option Fault) : Type 0 where
+pub record SavesHeld (Own : Try → Type 0) (start : History) (files : Watched History) (saved : Saved) (recorded : Table) (notes : NotesData) (fault : Option Fault) : Type 0 where
   pub safe : Undisturbed saved.old saved.new → IsSafeHeld (noted_makes (record files { old = start }) recorded notes) saved fault
-  pub ends : fault ≡ None → Undisturbed saved.old saved.new → IsNoted start recorded notes saved saved.old.history.last saved.new.history.last
+  pub ends : fault ≡ None → Undisturbed saved.old saved.new → IsNoted Own start recorded notes saved saved.old.history.last saved.new.history.last
 
 -- and so it is between taking the lock and giving it back
-abbrev pub IsNotedHeld : History → Table → NotesData → Saved → Type 0
-IsNotedHeld start recorded notes saved =
-    Undisturbed saved.old saved.new → (stretch : Stretch saved.old.history saved.new.history) × IsNoted start recorded notes saved stretch.from stretch.to
+abbrev pub IsNotedHeld : (Try → Type 0) → History → Table → NotesData → Saved → Type 0
+IsNotedHeld Own start recorded notes saved =
+    Undisturbed saved.old saved.new → (stretch : Stretch saved.old.history saved.new.history) × IsNoted Own start recorded notes saved stretch.from stretch.to
 
 -- ---- the lock
 
@@ -161,11 +168,11 @@ pub record WasNotGot (files : Watched History) (locks : Count) (fault : Option F
   pub answer : IsFaultOrMemory fault a_fault.ShelfFailed
 
 -- it was taken, and giving it back failed, behind notes that were saved, or behind a first fault; where the shelf failed both times, both are counted
-pub record WasNotGivenBack (start : History) (files : Watched History) (saved : Saved) (locks : Count) (recorded : Table) (notes : NotesData) (fault : Option Fault) : Type 0 where
+pub record WasNotGivenBack (Own : Try → Type 0) (start : History) (files : Watched History) (saved : Saved) (locks : Count) (recorded : Table) (notes : NotesData) (fault : Option Fault) : Type 0 where
   pub told : IsTrue files.old.told → NotReturned files.old files.new
   pub uncounted : locks.after ≡ locks.before
   pub failed : Fails files
-  pub first : (IsFaultOrMemory fault a_fault.ShelfFailed × (IsNotedHeld start recorded notes saved ⊎ FailsTwice files)) ⊎ (fault ≡ Some a_fault.OutOfMemory)
+  pub first : (IsFaultOrMemory fault a_fault.ShelfFailed × (IsNotedHeld Own start recorded notes saved ⊎ FailsTwice files)) ⊎ (fault ≡ Some a_fault.OutOfMemory)
 
 -- nothing was to be saved: without a fault nothing was noted
 abbrev pub IsNotDue : NotesData → Option Fault → Type 0
@@ -173,18 +180,18 @@ IsNotDue notes None = IsBlank notes
 IsNotDue notes (Some fault) = Unit {0}
 
 -- nothing was to be saved, and it wasn't called for; or it was called for once, and one of these came of it
-abbrev pub IsLockedToSave : History → Watched History → Saved → Count → Table → NotesData → Option Fault → Type 0
-IsLockedToSave start files saved locks recorded notes fault =
+abbrev pub IsLockedToSave : (Try → Type 0) → History → Watched History → Saved → Count → Table → NotesData → Option Fault → Type 0
+IsLockedToSave Own start files saved locks recorded notes fault =
     (IsNotDue notes fault × OnlyReads files saved locks)
-    ⊎ (WasPassedOver files locks fault ⊎ (WasNotGot files locks fault ⊎ (WasReturned files locks ⊎ WasNotGivenBack start files saved locks recorded notes fault)))
+    ⊎ (WasPassedOver files locks fault ⊎ (WasNotGot files locks fault ⊎ (WasReturned files locks ⊎ WasNotGivenBack Own start files saved locks recorded notes fault)))
 
 -- ---- all of it
 
 -- what became of notes over a record of this table, which was read since a start
-pub record SavesNotes (start : History) (files : Watched History) (saved : Saved) (locks : Count) (recorded : Table) (notes : NotesData) (fault : Option Fault) : Type 0 where
+pub record SavesNotes (Own : Try → Type 0) (start : History) (files : Watched History) (saved : Saved) (locks : Count) (recorded : Table) (notes : NotesData) (fault : Option Fault) : Type 0 where
   -- where nothing was noted nothing below `.hg` is touched
   pub idle : IsBlank notes → OnlyReads files saved locks × (fault ≡ None)
   pub safe : Undisturbed saved.old saved.new → IsSafe (noted_makes (record files { old = start }) recorded notes) saved fault
-  pub locked : IsLockedToSave start files saved locks recorded notes fault
+  pub locked : IsLockedToSave Own start files saved locks recorded notes fault
   -- without a fault: nothing was noted, or the lock was refused, and else this came of it
-  pub saves : fault ≡ None → IsBlank notes ⊎ (Rose locks.before locks.after ⊎ IsNotedHeld start recorded notes saved)
+  pub saves : fault ≡ None → IsBlank notes ⊎ (Rose locks.before locks.after ⊎ IsNotedHeld Own start recorded notes saved)

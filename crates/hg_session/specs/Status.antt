@@ -1,11 +1,13 @@
 -- What a status prints, tells and answers.
-use Rattle.std.specs.Prelude.{ℕ, ◌≡◌, ◌≤◌, ◌<◌, ◌⊎◌, true, List, Option, Some, None, Result, Ok, Err, IfOk, IfSome, IsSomeAnd, IsTrue, MatchOption, OnOk}
+use Rattle.std.specs.Prelude.{ℕ, ◌≡◌, ◌≤◌, ◌<◌, ◌⊎◌, true, List, Option, Some, None, Result, Ok, Err, IfOk, IfSome, IsSomeAnd, IsTrue, OnOk}
 use Rattle.hg_base.specs.Fault.{Rose}
 use Rattle.hg_base.specs.declared.id.Id20.{Id20}
 use Rattle.hg_base.specs.declared.stat.Stat.{Stat}
 use Rattle.hg_compare.specs.Alike.{contents_name, is_alike}
 use Rattle.hg_entry.specs.Table.{Table}
+use Rattle.hg_flat.specs.First.{IsBefore}
 use Rattle.hg_flat.specs.Listing.{wants_bytes}
+use Rattle.hg_flat.specs.Needed.{AsksNeeded}
 use Rattle.hg_flat.specs.Parent.{IsServed, manifest_at, row_of}
 use Rattle.hg_flat.specs.Patterns.{Warns, needs_patterns}
 use Rattle.hg_listing.specs.declared.fault.StatusFault.{StatusFault}
@@ -25,6 +27,7 @@ use Rattle.hg_report.specs.Status.{text_of}
 use Rattle.hg_report.specs.Warnings.{warnings_text}
 use Rattle.hg_report.specs.declared.fault.Fault.{Fault}
 use Rattle.hg_report.specs.declared.fault.Fault.TheVariants as a_fault
+use Rattle.hg_save.specs.Loads.{Try}
 use Rattle.hg_save.specs.Others.{KeepsRecords}
 use Rattle.hg_save.specs.Record.{record_in}
 use Rattle.hg_save.specs.Saved.{IsLatest}
@@ -33,7 +36,7 @@ use Rattle.hg_session.specs.Call.{Call, Count, Fails, Looked, Saved, Serves, Sin
 use Rattle.hg_session.specs.Change.{IsReadFirst, IsSafe, IsUnwritten}
 use Rattle.hg_session.specs.Crash.{IsCrashSafe, IsFirmFor, published_in}
 use Rattle.hg_session.specs.Flags.{style_of, wanted_of}
-use Rattle.hg_session.specs.Listed.{AsksBelow, AsksLittle, AsksOver, AsksOwn, AsksPlain, IsAskedAt, IsListable, IsListed, IsListedFor, IsOwn, IsRightFor, StatusCause, first_parent}
+use Rattle.hg_session.specs.Listed.{AsksBelow, AsksLittle, AsksOver, AsksOwn, AsksPlain, IsAskedAt, IsListable, IsListed, IsListedFor, IsOwn, IsRightFor, ReadsLittle, StatusCause, first_parent, status_over}
 use Rattle.hg_session.specs.Load.{of_read}
 use Rattle.hg_session.specs.Loaded.{IsLoaded, IsUnreadable, MetReading}
 use Rattle.hg_session.specs.Look.{IsCalm, Look, Concludes, OnlyReads, Shows, fault_in, saves_last}
@@ -42,7 +45,7 @@ use Rattle.hg_session.specs.Saving.{IsLockedToSave, IsNotedHeld, LastsNoted, not
 use Rattle.hg_session.specs.declared.read_fault.ReadFault.{ReadFault}
 use Rattle.hg_shelf.specs.History as shelf
 use Rattle.hg_shelf.specs.Images.{Goes, last_scene}
-use Rattle.hg_shelf.specs.Polite.{KeepsPlain, Undisturbed}
+use Rattle.hg_shelf.specs.Polite.{StaysPlain, Undisturbed}
 use Rattle.hg_tree.specs.History as tree
 use Rattle.hg_tree.specs.Honest.{IsHonest}
 use Rattle.hg_tree.specs.Moment.{Moment, stat_at}
@@ -53,25 +56,26 @@ use Rattle.hg_words.specs.declared.flags.StatusFlags.{StatusFlags}
 
 -- ---- what is noted of times, and saved
 
--- whatever others do in the working copy, each time that was noted was seen with what it stands for, where times are honest and the plain store stays
+-- whatever others do in the working copy, each time that was noted was seen with what it stands for by each store whose bytes the files of the plain store have
+-- wherever they are there, where times are honest
 abbrev pub AreEarnedFor : Looked → Table → NotesData → Type 0
 AreEarnedFor looked table notes =
-    IsHonest looked.tree.new → IsTrue looked.tree.old.told → KeepsPlain looked.shelf.new looked.shelf.old.last
-    → AreEarned (rows_in table (shelf.now looked.shelf.old).files) table looked.tree.new notes
+    (store : shelf.Files) → IsHonest looked.tree.new → IsTrue looked.tree.old.told → StaysPlain store looked.shelf.new looked.shelf.old.last
+    → AreEarned (rows_in table store) table looked.tree.new notes
 
--- where nobody else touches the working copy and the plain store stays, all was noted that a second status needs to read no clean file again
+-- where nobody else touches the working copy, all was noted that a second status needs to read no clean file again, by each such store
 abbrev pub IsRecordedFor : Looked → Wanted → Table → NotesData → Type 0
 IsRecordedFor looked wanted table notes =
-    tree.IsOurs looked.tree.old looked.tree.new → KeepsPlain looked.shelf.new looked.shelf.old.last
-    → IsRecorded wanted (rows_in table (shelf.now looked.shelf.old).files) table (tree.now looked.tree.old) (applied notes table)
+    (store : shelf.Files) → tree.IsOurs looked.tree.old looked.tree.new → StaysPlain store looked.shelf.new looked.shelf.old.last
+    → IsRecorded wanted (rows_in table store) table (tree.now looked.tree.old) (applied notes table)
 
--- whoever else steps, behind the notes the record vouches for each path that is left alone, from a moment of the call on what the first parent has of it too,
--- that is clean at the start and has a time that may be recorded by one time that the clock showed in the call
+-- whoever else steps, behind the notes the record vouches for each path that is left alone, what the first parent has of it being a store's from a moment of
+-- the call on, that is clean at the start and has a time that may be recorded by one time that the clock showed in the call
 pub record IsNotedBy (looked : Looked) (wanted : Wanted) (table : Table) (notes : NotesData) : Type 0 where
   pub since : ℕ
   pub from : looked.shelf.old.last ≤ since
   pub to : since ≤ looked.shelf.new.last
-  pub by : AreNotedBy wanted (rows_in table (looked.shelf.new.at since).files) table looked.tree.old looked.tree.new looked.shelf.new since notes
+  pub by : AreNotedBy wanted table looked.tree.old looked.tree.new looked.shelf.new since notes
 
 -- so it is where bytes decide letters that are wanted
 abbrev pub IsNotedByFor : Looked → Wanted → Table → NotesData → Type 0
@@ -179,7 +183,8 @@ pub record HasBadManifest (wanted : Wanted) (files : shelf.Files) (moment : Mome
   pub asked : IsAskedAt wanted table moment path
   pub is : manifest_at files (first_parent table) ≡ Err fault
 
--- a path is compared whose row in the manifest names contents that aren't there, and a thing of the row's kind and executable bit stands there
+-- a path is compared whose row in the manifest names contents that aren't there, and a thing of the row's kind and executable bit stands there; each path before
+-- it that is compared has its own
 pub record LacksContents (wanted : Wanted) (files : shelf.Files) (moment : Moment) (gone : Id20) : Type 0 where
   pub table : Table
   pub ready : IsReady wanted files moment table
@@ -192,6 +197,7 @@ pub record LacksContents (wanted : Wanted) (files : shelf.Files) (moment : Momen
   pub names : row.id ≡ gone
   pub alike : (stat : Stat) × (stat_at moment path ≡ Some stat) × IsTrue (is_alike row stat)
   pub absent : files (contents_name gone.0) ≡ None
+  pub before : (other : List ℕ) → IsBefore other path → IsAskedAt wanted table moment other → IsServed files (first_parent table) moment other
 
 -- the ignore patterns are needed, the files record a table, and the patterns are refused so
 pub record HasBadPatterns (wanted : Wanted) (files : shelf.Files) (moment : Moment) (fault : IgnoreFault) : Type 0 where
@@ -227,6 +233,7 @@ pub record ShowsTable (flags : StatusFlags) (looked : Looked) (table : Table) (o
   pub answered : IfOk result (λ is. is ≡ notes)
   pub asked : IsTrue looked.tree.old.told → AsksOver table (wanted_of flags) looked.tree
   pub store : IsTrue looked.shelf.old.told → AsksPlain looked (wanted_of flags) table looked.shelf.old looked.shelf.new
+  pub reads : IsTrue looked.tree.old.told → AsksNeeded (status_over looked (wanted_of flags) table)
   pub calm : OnOk result (IsCalm looked out err)
   pub streams : OnStream (fault_in result) (looked.shelf.after ≡ looked.shelf.before)
   pub tree_failed : looked.tree.before < looked.tree.after → fault_in result ≡ Some a_fault.TreeFailed
@@ -240,21 +247,26 @@ abbrev pub noted_in : Watched shelf.History → Option Table → NotesData → M
 noted_in files None notes = makes_nothing
 noted_in files (Some table) notes = noted_makes files table notes
 
--- what came of the lock: where no table was read it wasn't called for
-abbrev pub IsLockedLast : Watched shelf.History → Saved → Count → Option Table → NotesData → Option Fault → Type 0
-IsLockedLast files saved locks None notes fault = OnlyReads files saved locks
-IsLockedLast files saved locks (Some table) notes fault = IsLockedToSave files.old files saved locks table notes fault
+-- the last try by which a table was read
+abbrev pub ByLoaded : (files : Watched shelf.History) (table : Option Table) → IfSome table (IsLoaded files) → Try → Type 0
+ByLoaded files None loaded tried = ⊥
+ByLoaded files (Some table) loaded tried = (told : IsTrue files.old.told) × (tried ≡ (loaded told).tried.last)
 
--- what becomes of the notes of a status that ended with this fault or with none
-pub record SavesLast (files : Watched shelf.History) (saved : Saved) (locks : Count) (table : Option Table) (notes : NotesData) (fault : Option Fault) : Type 0 where
+-- what came of the lock: where no table was read it wasn't called for
+abbrev pub IsLockedLast : (Try → Type 0) → Watched shelf.History → Saved → Count → Option Table → NotesData → Option Fault → Type 0
+IsLockedLast Own files saved locks None notes fault = OnlyReads files saved locks
+IsLockedLast Own files saved locks (Some table) notes fault = IsLockedToSave Own files.old files saved locks table notes fault
+
+-- what becomes of the notes of a status that ended with this fault or with none, over the record that was read by its own try
+pub record SavesLast (Own : Try → Type 0) (files : Watched shelf.History) (saved : Saved) (locks : Count) (table : Option Table) (notes : NotesData) (fault : Option Fault) : Type 0 where
   -- whatever the answer, nothing was written, or the record that was read, with the notes, was published while the lock was held
   pub safe : Undisturbed saved.old saved.new → IsSafe (noted_in files table notes) saved fault
   -- where nothing is noted, or a fault was met before, the files below `.hg` were only asked, and no lock was called for
   pub idle : IsBlank notes → OnlyReads files saved locks
-  pub locked : IsLockedLast files saved locks table notes fault
+  pub locked : IsLockedLast Own files saved locks table notes fault
   -- without a fault the record with the notes is what is recorded where the lock was given back, unless nothing was noted, the lock was refused, or another
   -- docket stood, or what would be written is too large, or no identifier is left
-  pub saves : fault ≡ None → IsSomeAnd table (λ t. IsBlank notes ⊎ (Rose locks.before locks.after ⊎ IsNotedHeld files.old t notes saved))
+  pub saves : fault ≡ None → IsSomeAnd table (λ t. IsBlank notes ⊎ (Rose locks.before locks.after ⊎ IsNotedHeld Own files.old t notes saved))
   pub kept : Goes saved.old saved.new
 
 -- all of a status, or a fault, before its line is told
@@ -268,6 +280,7 @@ pub record DoesStatus (flags : StatusFlags) (looked : Looked) (saved : Saved) (l
   pub notes : NotesData
   pub shows : Shows (status_look flags (listed_to end looked) saved locks table notes) out err result
   pub asked : AsksLittle looked (wanted_of flags) table
+  pub reads : ReadsLittle looked (wanted_of flags) table
   pub below : IsTrue looked.shelf.old.told → AsksBelow looked (wanted_of flags) table
   pub calm : OnOk result (IsCalm looked out err)
   pub streams : OnStream (fault_in result) (looked.shelf.after ≡ looked.shelf.before)
@@ -275,11 +288,16 @@ pub record DoesStatus (flags : StatusFlags) (looked : Looked) (saved : Saved) (l
   pub needed : IfSome table (λ t. AreNeeded t notes)
   pub noted : AreNoted looked.tree.old looked.tree.new notes
   pub earned : IfSome table (λ t. AreEarnedFor looked t notes)
-  pub saving : SavesLast looked.shelf saved locks table notes (fault_in result)
+  pub saving : SavesLast (ByLoaded (listed_to end looked).shelf table loaded) looked.shelf saved locks table notes (fault_in result)
 
 -- a table was read in the call, before the caller made a step, where the files are told
 abbrev pub IsLoadedFirst : Watched shelf.History → Table → Type 0
 IsLoadedFirst files table = IsTrue files.old.told → IsReadFirst files.old files.new table
+
+-- the last try by which it was
+abbrev pub ByLoadedFirst : (files : Watched shelf.History) (table : Option Table) → IfSome table (IsLoadedFirst files) → Try → Type 0
+ByLoadedFirst files None loaded tried = ⊥
+ByLoadedFirst files (Some table) loaded tried = (told : IsTrue files.old.told) × (tried ≡ (loaded told).read.tried.last)
 
 -- what a status did that ended with this status and this fault, or with none
 pub record RanStatus (flags : StatusFlags) (call : Call) (code : ℕ) (fault : Option Fault) : Type 0 where
@@ -304,6 +322,9 @@ pub record RanStatus (flags : StatusFlags) (call : Call) (code : ℕ) (fault : O
   -- lists directories only where `?` or I is wanted, each once at most; where nobody else steps visible ones alone, and without I none that is ignored
   pub tree : tree.Passes call.looked.tree.old call.looked.tree.new
   pub asked : AsksLittle call.looked (wanted_of flags) table
+  -- of each path it reads the bytes in one comparison at most, and only where the manifest that it read has a row of the path whose kind, executable bit and size
+  -- a look showed there
+  pub reads : ReadsLittle call.looked (wanted_of flags) table
   -- below `.hg` it asks for the record, then for what its comparisons need, the manifest once at most, and for the docket once more before it saves times
   pub below : IsTrue call.looked.shelf.old.told → AsksBelow call.looked (wanted_of flags) table
   -- what it noted of times: only what is needed; each time is that of a look in the call, by one time that the clock showed in it no later than at the look;
@@ -312,18 +333,14 @@ pub record RanStatus (flags : StatusFlags) (call : Call) (code : ℕ) (fault : O
   pub noted : AreNoted call.looked.tree.old call.looked.tree.new notes
   pub earned : IfSome table (λ t. AreEarnedFor call.looked t notes)
   -- what became of that
-  pub saving : SavesLast call.looked.shelf call.saved call.locks table notes fault
+  pub saving : SavesLast (ByLoadedFirst call.looked.shelf table loaded) call.looked.shelf call.saved call.locks table notes fault
   -- and from where the lock was given back on, a crash leaves what was saved, or what others published since
   pub lasts : (calm : Undisturbed call.saved.old call.saved.new) → KeepsRecords shelf.others call.saved.new call.saved.old.history.last
-      → IfSome table (λ t. (noted : IsNotedHeld call.looked.shelf.old t notes call.saved)
-      → LastsNoted call.looked.shelf.old t notes call.saved (noted calm).0.from (noted calm).0.to (noted calm).1)
+      → IfSome table (λ t. (noted : IsNotedHeld (ByLoadedFirst call.looked.shelf table loaded) call.looked.shelf.old t notes call.saved)
+      → LastsNoted (ByLoadedFirst call.looked.shelf table loaded) call.looked.shelf.old t notes call.saved (noted calm).0.from (noted calm).0.to (noted calm).1)
   -- and where others keep to how a record is published, and for an append where it is made upon firm ground: at each moment since the call's start a crash
   -- leaves a record of what it might have left then, of what the call published, or of what others published since
   pub crash : (calm : Undisturbed call.saved.old call.saved.new) → KeepsRecords shelf.others call.saved.new call.saved.old.history.last → IsLatest (last_scene call.saved.old)
       → IsFirmFor (noted_in call.looked.shelf table notes) call.saved fault (saving.safe calm) → IsCrashSafe (published_in (noted_in call.looked.shelf table notes) call.saved fault (saving.safe calm)) call.saved
-  -- where a device failed, or a regexp was too big, there is a fault; another one than of a stream where the shelf did, and that of the working copy where it did
-  pub calm : fault ≡ None → IsCalm call.looked call.out call.err
-  pub streams : OnStream fault (call.looked.shelf.after ≡ call.looked.shelf.before)
-  pub tree_failed : call.looked.tree.before < call.looked.tree.after → IsFaultOrMemory fault a_fault.TreeFailed
-  -- the status is 0 without a fault, and 255 with one
-  pub status : MatchOption fault (code ≡ 0) (λ f. code ≡ 255)
+  -- the status is 0 without a fault
+  pub status : fault ≡ None → code ≡ 0

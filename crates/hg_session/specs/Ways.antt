@@ -18,8 +18,8 @@ use Rattle.hg_mixed.specs.Opened.{source_place}
 use Rattle.hg_mixed.specs.Shown.{ArePlacesOfImage, list_place}
 use Rattle.hg_save.specs.Over.{IsEncoded}
 use Rattle.hg_save.specs.Loads.{Try, files_at}
-use Rattle.hg_save.specs.Others.{IsFrontOf, named_file}
-use Rattle.hg_save.specs.Record.{docket_in, id_in}
+use Rattle.hg_save.specs.Others.{IsFrontOf, named_file, nodes_in}
+use Rattle.hg_save.specs.Record.{shown_in, id_in}
 use Rattle.hg_save.specs.Saved.{KeepsOthers}
 use Rattle.hg_save.specs.Behind.{KeepsUsedBytes}
 use Rattle.hg_session.specs.Kept.{IsSameBelow}
@@ -35,11 +35,11 @@ pub record Stood : Type 0 where
 
 -- those in files
 abbrev pub stood_in : Files → Stood
-stood_in files = record { docket = docket_in files; file = named_file (docket_in files) files }
+stood_in files = record { docket = shown_in files; file = nodes_in files }
 
 -- those that a try of a load read: the docket as it stood at one moment, and the data file at that or a later one
 abbrev pub stood_by : History → Try → Stood
-stood_by h tried = record { docket = docket_in (files_at h tried.docket); file = named_file (docket_in (files_at h tried.docket)) (files_at h tried.file) }
+stood_by h tried = record { docket = shown_in (files_at h tried.docket); file = named_file (shown_in (files_at h tried.docket)) (files_at h tried.file) }
 
 -- a table in memory has the list of a directory lent from the image that it was opened over exactly where the image has one and nothing differs below; and the
 -- text of a path, or of its copy source, exactly where the image has it too, and where the image has that of the same path
@@ -64,7 +64,7 @@ pub record IsMadeOver (stood : Stood) (made : Table) (held : Held) : Type 0 wher
 pub record KeepsUnchanged (held : Held) (files : Files) : Type 0 where
   pub same : id_in files ≡ held.docket.id
   pub lists : (dir : Option (List ℕ)) → has_list (rows_of held.docket held.bytes) dir ≡ true → IsSameBelow dir (image_table held) (table held)
-      → list_place (docket_of (docket_in files)) (rows_of (docket_of (docket_in files)) (content (named_file (docket_in files) files))) dir ≡ list_place held.docket (rows_of held.docket held.bytes) dir
+      → list_place (docket_of (shown_in files)) (rows_of (docket_of (shown_in files)) (content (nodes_in files))) dir ≡ list_place held.docket (rows_of held.docket held.bytes) dir
 
 -- ---- by which way
 

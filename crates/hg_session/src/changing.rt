@@ -11,7 +11,7 @@ ghost use Rattle.hg_save.specs.Leads.{IsHeld};
 ghost use Rattle.hg_save.specs.Loads.{Try};
 ghost use Rattle.hg_session.specs.Acts.{makes_of};
 ghost use Rattle.hg_session.specs.Anew.{IsOpened, IsRecorded, LoadsOrRefuses, MetWriting, WritesOnly};
-ghost use Rattle.hg_session.specs.Change.{AsksChange, ChangesBehind, FailsOrUnwritten, IsDone, IsEarly, IsReadSome, IsSafeHeld, MetChanging, fault_of, of_change};
+ghost use Rattle.hg_session.specs.Change.{AsksChange, ChangesBehind, FailsOrUnwritten, IsDone, IsSafeHeld, MetChanging, fault_of, of_change};
 ghost use Rattle.hg_session.specs.Loaded.{AsksRecord, NodesFind};
 ghost use Rattle.hg_session.specs.Ways.{CanWrite};
 ghost use Rattle.hg_ops.specs.declared.refusal.OpFault.TheVariants as an_op_fault;
@@ -40,7 +40,7 @@ pub(crate) fn save<S: Shelf>(
     table: &Mixed<'_>,
 ) -> Result<(), ChangeFault>
     requires held { (S.history shelf.old).ours ≡ true }
-    requires docket { table.now.docket ≡ docket_of loaded.now.docket.items }
+    requires docket { table.now.docket ≡ docket_of loaded.now.shown.items }
     requires nodes { table.now.bytes ≡ loaded.now.nodes.items }
     ensures still { table.now.changed ≡ false → shelf.new ≡ shelf.old }
     ensures fits { OnOk result (table.now.changed ≡ true → CanWrite table.now) }
@@ -119,9 +119,6 @@ pub(crate) fn change_locked<T: Tree, S: Shelf>(
         (record { old = T.history tree.old; new = T.history tree.new; before = T.faults tree.old; after = T.faults tree.new })
         (record { old = S.history shelf.old; new = S.history shelf.new; before = S.faults shelf.old; after = S.faults shelf.new }) }
     ensures failed { T.faults tree.old < T.faults tree.new → result ≡ Err (a_fault.Op an_op_fault.TreeFailed) }
-    ensures behind { (tree.new ≡ tree.old)
-        ⊎ IsReadSome (record { old = S.history shelf.old; new = S.history shelf.new; before = S.faults shelf.old; after = S.faults shelf.new }) }
-    ensures early { IfErr result (λ fault. IsEarly (of_change fault) → tree.new ≡ tree.old) }
     ensures calm_tree { OnOk result (T.faults tree.new ≡ T.faults tree.old) }
     ensures calm_shelf { OnOk result (S.faults shelf.new ≡ S.faults shelf.old) }
     ensures later { S.faults shelf.old ≤ S.faults shelf.new }

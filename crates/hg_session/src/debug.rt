@@ -26,7 +26,7 @@ use std::alloc::Global;
 
 // The text of all that a record has that was loaded.
 fn text_in(alloc: Global, loaded: &Loaded) -> Result<Vec<u8>, ReadFault>
-    ensures { NodesFind IsBytesOf result (data_reading (docket_of loaded.now.docket.items) loaded.now.nodes.items) }
+    ensures { NodesFind IsBytesOf result (data_reading (docket_of loaded.now.shown.items) loaded.now.nodes.items) }
 {
     let image = loaded.open()?;
     let mixed = Mixed::open(image);

@@ -3,9 +3,9 @@
 ghost use Rattle.std.specs.Prelude.{◌≡◌, ◌⊎◌, ◌<◌, List, Option, ℕ, IfErr, IfOk, IsTrue, MatchOption, None, OnOk, Err};
 ghost use Rattle.hg_session.specs.Acts.{makes_of};
 ghost use Rattle.hg_session.specs.Call.{Count, Sink};
-ghost use Rattle.hg_session.specs.Change.{AsksChange, ChangesBehind, FailsOrUnwritten, IsDone, IsEarly, IsLocked, IsReadSome, IsSafe, MetLocking, Stretch, fault_of, of_change, once_freed};
+ghost use Rattle.hg_session.specs.Change.{AsksChange, ChangesBehind, FailsOrUnwritten, IsDone, IsLocked, IsSafe, MetLocking, Stretch, fault_of, of_change, once_freed};
 ghost use Rattle.hg_session.specs.Changed as changed_is;
-ghost use Rattle.hg_session.specs.Changed.{RanChange};
+ghost use Rattle.hg_session.specs.Ends.{EndsChange};
 ghost use Rattle.hg_session.specs.Loaded.{AsksRecord};
 ghost use Rattle.hg_session.specs.Put.{IsSilent};
 ghost use Rattle.hg_ops.specs.declared.refusal.OpFault.TheVariants as an_op_fault;
@@ -80,9 +80,6 @@ fn change<T: Tree, S: Shelf>(
     ensures unwritten { IfErr result (FailsOrUnwritten (S.history shelf.old) (S.history shelf.new)) }
     ensures held { S.held shelf.old < S.held shelf.new → result ≡ Err a_fault.Held }
     ensures failed { T.faults tree.old < T.faults tree.new → result ≡ Err (a_fault.Op an_op_fault.TreeFailed) }
-    ensures behind { (tree.new ≡ tree.old)
-        ⊎ IsReadSome (record { old = S.history shelf.old; new = S.history shelf.new; before = S.faults shelf.old; after = S.faults shelf.new }) }
-    ensures early { IfErr result (λ fault. IsEarly (of_change fault) → tree.new ≡ tree.old) }
     ensures copy { ChangesBehind
         command.now
         (record { old = T.history tree.old; new = T.history tree.new; before = T.faults tree.old; after = T.faults tree.new })
@@ -133,9 +130,9 @@ pub(crate) fn change_record<T: Tree, S: Shelf, E: Sink>(
     shelf: &mut S,
     err: &mut E,
 ) -> Outcome
-    // `RanChange` in specs/Changed.antt, whatever else a call has that isn't touched.
+    // `EndsChange` in specs/Ends.antt, whatever else a call has that isn't touched.
     ensures ran { (out : Sink) (oversize : Count) → IsSilent out → oversize.after ≡ oversize.before
-        → RanChange
+        → EndsChange
         (record {
           command = command.now;
           looked =

@@ -39,7 +39,7 @@ pub(crate) fn opened<'a>(loaded: &'a Loaded) -> Result<Mixed<'a>, ReadFault>
     ensures { NodesFind
         (IsOpened loaded.now)
         result
-        (data_reading (docket_of loaded.now.docket.items) loaded.now.nodes.items) }
+        (data_reading (docket_of loaded.now.shown.items) loaded.now.nodes.items) }
 {
     let image = loaded.open()?;
     let mixed = Mixed::open(image);

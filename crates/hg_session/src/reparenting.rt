@@ -1,8 +1,9 @@
 //! New parents, by their manifests.
 
-ghost use Rattle.std.specs.Prelude.{◌≡◌, ◌++◌, false, IfErr, IfOk, IsTrue, OnOk};
+ghost use Rattle.std.specs.Prelude.{◌≡◌, false, IfErr, IfOk, IsTrue, OnOk};
 ghost use Rattle.hg_base.specs.Fault.{HasCause};
-ghost use Rattle.hg_manifest.specs.Load.{asks_of};
+ghost use Rattle.hg_manifest.specs.Load.{AsksByFile, asks_of};
+ghost use Rattle.hg_manifest.specs.Plain.{plain_name};
 ghost use Rattle.hg_manifest.specs.declared.fault.ManifestFault.TheVariants as a_manifest_fault;
 ghost use Rattle.hg_mixed.specs.Edits.{IsOfSameImage};
 ghost use Rattle.hg_nodes.specs.Edits.{IsSame, Marks};
@@ -10,8 +11,7 @@ ghost use Rattle.hg_mixed.specs.Held.{table};
 ghost use Rattle.hg_ops.specs.Parents.{HasParents, LendsParents, PlacesParents};
 ghost use Rattle.hg_ops.specs.declared.refusal.OpFault.TheVariants as an_op_fault;
 ghost use Rattle.hg_session.specs.Kept.{KeepsLent};
-ghost use Rattle.hg_session.specs.Manifests.{Answers, IsReparented, StopsParents};
-ghost use Rattle.hg_shelf.specs.Asks.{AsksFrontOf, AsksInOrder};
+ghost use Rattle.hg_session.specs.Manifests.{Answers, AsksManifests, IsReparented, StopsParents};
 ghost use Rattle.hg_shelf.specs.History.{Passes};
 ghost use Rattle.hg_shelf.specs.Images.{Goes, course};
 
@@ -28,7 +28,7 @@ fn rows_of<S: Shelf>(alloc: Global, shelf: &mut S, id: &Id20) -> Result<Manifest
     ensures passes { Passes (S.history shelf.old) (S.history shelf.new) }
     ensures kept { Goes (course (S.history shelf.old) (S.images shelf.old)) (course (S.history shelf.new) (S.images shelf.new)) }
     ensures held { S.held shelf.new ≡ S.held shelf.old }
-    ensures asked { IsTrue (S.history shelf.old).told → AsksInOrder (asks_of id.now) (S.history shelf.old) (S.history shelf.new) result }
+    ensures asked { IsTrue (S.history shelf.old).told → AsksByFile (plain_name id.now.0) (asks_of id.now) (S.history shelf.old) (S.history shelf.new) result }
     ensures cause { HasCause (S.faults shelf.old) (S.faults shelf.new) result (λ e. e ≡ a_manifest_fault.Failed) }
 {
     Manifest::load(alloc, shelf, id)
@@ -87,7 +87,7 @@ pub(crate) fn reparent<S: Shelf>(
     ensures passes { Passes (S.history shelf.old) (S.history shelf.new) }
     ensures kept { Goes (course (S.history shelf.old) (S.images shelf.old)) (course (S.history shelf.new) (S.images shelf.new)) }
     ensures held { S.held shelf.new ≡ S.held shelf.old }
-    ensures asked { IsTrue (S.history shelf.old).told → AsksFrontOf (asks_of p1 ++ asks_of p2) (S.history shelf.old) (S.history shelf.new) }
+    ensures asked { IsTrue (S.history shelf.old).told → AsksManifests p1 p2 (S.history shelf.old) (S.history shelf.new) }
     ensures cause { HasCause (S.faults shelf.old) (S.faults shelf.new) result (λ e. e ≡ an_op_fault.ShelfFailed) }
     ensures kind { IfErr result (λ e. e ≡ an_op_fault.TreeFailed → ⊥) }
 {

@@ -7,11 +7,11 @@ ghost use Rattle.hg_entry.specs.Table.{Table};
 ghost use Rattle.hg_mixed.specs.Held.{table};
 ghost use Rattle.hg_save.specs.Asked.{docket_ask};
 ghost use Rattle.hg_save.specs.Leads.{IsHeld};
-ghost use Rattle.hg_save.specs.Record.{docket_in};
+ghost use Rattle.hg_save.specs.Record.{docket_in, shown_in};
 ghost use Rattle.hg_session.specs.Call.{counted, saved_by, watched};
 ghost use Rattle.hg_session.specs.Change.{IsUnwritten};
 ghost use Rattle.hg_session.specs.Kept.{AreNews};
-ghost use Rattle.hg_session.specs.Saving.{IsOpenedSince, SavesHeld, SavesNotes, once_saved, save_fault, unless_full};
+ghost use Rattle.hg_session.specs.Saving.{IsOpenedSince, IsTryOf, SavesHeld, SavesNotes, once_saved, save_fault, unless_full};
 ghost use Rattle.hg_session.specs.declared.save_fault.SaveFault.TheVariants as a_fault;
 ghost use Rattle.hg_shelf.specs.Asks.{AsksFrontOf, AsksInOrder};
 ghost use Rattle.hg_shelf.specs.History.{History, Passes, now};
@@ -45,6 +45,8 @@ fn unless_unfit(done: Result<(), ChangeFault>) -> Result<(), SaveFault>
 fn stands<S: Shelf>(shelf: &mut S, loaded: &Loaded) -> Result<bool, SaveFault>
     ensures found { IsTrue (S.history shelf.old).told
         → IfOk result (λ same. IsTrue same ↔ (docket_in (now (S.history shelf.new)).files ≡ loaded.now.docket.items)) }
+    ensures shown { IsTrue (S.history shelf.old).told
+        → IfOk result (λ same. IsTrue same → shown_in (now (S.history shelf.new)).files ≡ loaded.now.shown.items) }
     ensures passes { Passes (S.history shelf.old) (S.history shelf.new) }
     ensures kept { Goes (course (S.history shelf.old) (S.images shelf.old)) (course (S.history shelf.new) (S.images shelf.new)) }
     ensures asked { IsTrue (S.history shelf.old).told → AsksInOrder (docket_ask ∷ []) (S.history shelf.old) (S.history shelf.new) result }
@@ -67,13 +69,14 @@ fn save_held<S: Shelf>(
     notes: Notes,
 ) -> Result<(), SaveFault>
     requires held { (S.history shelf.old).ours ≡ true }
-    requires over { mixed.old.docket ≡ docket_of loaded.now.docket.items }
+    requires over { mixed.old.docket ≡ docket_of loaded.now.shown.items }
     requires nodes { mixed.old.bytes ≡ loaded.now.nodes.items }
     requires unchanged { mixed.old.changed ≡ false }
     requires can { CanApply notes (table mixed.old) }
     // `SavesHeld` in specs/Saving.antt.
-    ensures saves { (start : History) (recorded : Table) → IsOpenedSince start (S.history shelf.old) loaded.now recorded mixed.old → AreNews recorded notes
+    ensures saves { (start : History) (recorded : Table) (since : IsOpenedSince start (S.history shelf.old) loaded.now recorded mixed.old) → AreNews recorded notes
         → SavesHeld
+        (IsTryOf start (S.history shelf.old) loaded.now recorded mixed.old since)
         start
         (watched S.history S.faults shelf.old shelf.new)
         (saved_by S.history S.images shelf.old shelf.new)
@@ -120,13 +123,14 @@ pub(crate) fn save_notes<S: Shelf>(
     mixed: &mut Mixed<'_>,
     notes: Notes,
 ) -> Result<(), SaveFault>
-    requires over { mixed.old.docket ≡ docket_of loaded.now.docket.items }
+    requires over { mixed.old.docket ≡ docket_of loaded.now.shown.items }
     requires nodes { mixed.old.bytes ≡ loaded.now.nodes.items }
     requires unchanged { mixed.old.changed ≡ false }
     requires can { CanApply notes (table mixed.old) }
     // `SavesNotes` in specs/Saving.antt.
-    ensures saves { (start : History) (recorded : Table) → IsOpenedSince start (S.history shelf.old) loaded.now recorded mixed.old → AreNews recorded notes
+    ensures saves { (start : History) (recorded : Table) (since : IsOpenedSince start (S.history shelf.old) loaded.now recorded mixed.old) → AreNews recorded notes
         → SavesNotes
+        (IsTryOf start (S.history shelf.old) loaded.now recorded mixed.old since)
         start
         (watched S.history S.faults shelf.old shelf.new)
         (saved_by S.history S.images shelf.old shelf.new)

@@ -1,7 +1,7 @@
 -- What others keep to below `.hg`.
-use Rattle.std.specs.Prelude.{ℕ, ◌≡◌, ◌≤◌, ◌<◌, ◌+◌, Bool, List, take, codes, IsTrue}
+use Rattle.std.specs.Prelude.{ℕ, ◌≡◌, ◌≤◌, ◌<◌, ◌+◌, Bool, List, take, codes, Some, IsTrue}
 use Rattle.std.specs.Str.{bytes_eq}
-use Rattle.hg_shelf.specs.History.{History, readers}
+use Rattle.hg_shelf.specs.History.{Files, History, readers}
 use Rattle.hg_shelf.specs.Images.{Course, Remains, scene}
 
 -- a file of the plain store: a manifest, or the contents of a file
@@ -16,6 +16,21 @@ KeepsFile h from name = (k : ℕ) → from ≤ k → k ≤ h.last → (h.at k).f
 pub record KeepsPlain (h : History) (from : ℕ) : Type 0 where
   pub told : IsTrue h.told
   pub each : (name : List ℕ) → IsTrue (is_plain name) → KeepsFile h from name
+
+-- a file, wherever it is there from a moment on, has the bytes that it has in a store; where it is absent, nothing is said of it, so it may come
+abbrev pub StaysIn : Files → History → ℕ → List ℕ → Type 0
+StaysIn store h from name = (k : ℕ) → from ≤ k → k ≤ h.last → (bytes : List ℕ) → (h.at k).files name ≡ Some bytes → store name ≡ Some bytes
+
+-- so has each file of the plain store
+pub record StaysPlain (store : Files) (h : History) (from : ℕ) : Type 0 where
+  pub told : IsTrue h.told
+  pub each : (name : List ℕ) → IsTrue (is_plain name) → StaysIn store h from name
+
+-- others keep what is there of the plain store: a file that is there at a moment from one on has the same bytes at each later one; an absent one may come
+pub record KeepsThere (h : History) (from : ℕ) : Type 0 where
+  pub told : IsTrue h.told
+  pub each : (name : List ℕ) → IsTrue (is_plain name) → (k l : ℕ) → from ≤ k → k ≤ l → l ≤ h.last → (bytes : List ℕ)
+      → (h.at k).files name ≡ Some bytes → (h.at l).files name ≡ Some bytes
 
 -- while the caller holds the lock, others only read: from a moment on, no step of theirs shows or leaves anything new
 pub record OthersOnlyRead (c : Course) (from : ℕ) : Type 0 where

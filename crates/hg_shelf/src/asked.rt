@@ -2,11 +2,11 @@
 
 use hg_base::Text;
 
-/// A call that asks for the size of a file, or for bytes of it.
+/// A call that asks for the size of a file, or for bytes of it: so many from a place on, in bytes from its start.
 #[derive(Debug, Drop)]
 pub enum Asked {
     Size { name: Text },
-    Read { name: Text },
+    Read { name: Text, place: u64, length: u64 },
 }
 
 /// What a call of the lock came to: it was taken, refused or given back, or taking it or giving it back failed.

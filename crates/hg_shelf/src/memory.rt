@@ -180,14 +180,14 @@ impl MemShelf {
     }
 
     // Begins a call that asks for bytes, which is noted, also where the call fails.
-    fn begin_read(&mut self, name: &str) -> Result<(), Failed>
-        ensures ok { OnOk result (self.new ≡ asking (an_ask.Read name.now) (after_call self.old)) }
-        ensures failed { OnErr result (FailsAsking (an_ask.Read name.now) self.old self.new) }
-        ensures alone { coming self.old ≡ [] → AsksAlone (an_ask.Read name.now) (is_err result) self.old self.new }
+    fn begin_read(&mut self, name: &str, place: u64, length: u64) -> Result<(), Failed>
+        ensures ok { OnOk result (self.new ≡ asking (an_ask.Read name.now place length) (after_call self.old)) }
+        ensures failed { OnErr result (FailsAsking (an_ask.Read name.now place length) self.old self.new) }
+        ensures alone { coming self.old ≡ [] → AsksAlone (an_ask.Read name.now place length) (is_err result) self.old self.new }
         ensures due { IsTrue (is_due self.old.calls) → is_err result ≡ true }
         ensures cause { HasCause self.old.calls.faults self.new.calls.faults result (λ e. Unit {0}) }
     {
-        match note_read(self.alloc, &mut self.asked, name) {
+        match note_read(self.alloc, &mut self.asked, name, place, length) {
             Ok(()) => {
                 self.begin()?;
                 Ok(())
@@ -305,11 +305,11 @@ impl Shelf for MemShelf {
         ensures fit { IfOk result (λ got. IsWithin (length buf.old) got) }
         ensures cause { HasCause self.old.calls.faults self.new.calls.faults result (λ e. Unit {0}) }
         ensures due { IsTrue (is_due self.old.calls) → is_err result ≡ true }
-        ensures answered { OnOk result (self.new ≡ asking (an_ask.Read name.now) (after_call self.old)) }
-        ensures failed { OnErr result (FailsAsking (an_ask.Read name.now) self.old self.new) }
-        ensures alone { coming self.old ≡ [] → AsksAlone (an_ask.Read name.now) (is_err result) self.old self.new }
+        ensures answered { OnOk result (self.new ≡ asking (an_ask.Read name.now place (length buf.old)) (after_call self.old)) }
+        ensures failed { OnErr result (FailsAsking (an_ask.Read name.now place (length buf.old)) self.old self.new) }
+        ensures alone { coming self.old ≡ [] → AsksAlone (an_ask.Read name.now place (length buf.old)) (is_err result) self.old self.new }
     {
-        self.begin_read(name)?;
+        self.begin_read(name, place, buf.len() as u64)?;
         match self.log.get(name) {
             Some(bytes) => Ok(Got::Bytes(read_past(bytes, place, buf))),
             None => Ok(Got::Absent),

@@ -17,13 +17,23 @@ pub fn note_size(alloc: Global, asked: &mut Vec<Asked>, name: &str) -> Result<()
     Ok(())
 }
 
-/// Bytes are asked for.
-pub fn note_read(alloc: Global, asked: &mut Vec<Asked>, name: &str) -> Result<(), OutOfMemory>
-    ensures ok { OnOk result (asked.new.items ≡ asked.old.items ++ an_ask.Read name.now ∷ []) }
+/// So many bytes from a place on are asked for.
+pub fn note_read(
+    alloc: Global,
+    asked: &mut Vec<Asked>,
+    name: &str,
+    place: u64,
+    length: u64,
+) -> Result<(), OutOfMemory>
+    ensures ok { OnOk result (asked.new.items ≡ asked.old.items ++ an_ask.Read name.now place length ∷ []) }
     ensures err { OnErr result (asked.new.items ≡ asked.old.items) }
 {
     let name = Text::of(alloc, name)?;
-    asked.push(Asked::Read { name })?;
+    asked.push(Asked::Read {
+        name,
+        place,
+        length,
+    })?;
     Ok(())
 }
 

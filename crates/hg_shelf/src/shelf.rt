@@ -43,7 +43,7 @@ pub trait Shelf {
     fn read_at(&mut self, name: &str, place: u64, buf: &mut [u8]) -> Result<Got, Failed>
         ensures passes { Passes (history self.old) (history self.new) }
         ensures kept { Goes (course (history self.old) (images self.old)) (course (history self.new) (images self.new)) }
-        ensures asked { IsTrue (history self.old).told → Asks (is_ok result) (an_ask.Read name.now ∷ []) (history self.old) (history self.new) }
+        ensures asked { IsTrue (history self.old).told → Asks (is_ok result) (an_ask.Read name.now place (length buf.old) ∷ []) (history self.old) (history self.new) }
         ensures found { IsTrue (history self.old).told
             → IfOk result (λ got. ReadsBytes ((now (history self.new)).files name.now) place buf.old buf.new got) }
         ensures fit { IfOk result (λ got. IsWithin (length buf.old) got) }

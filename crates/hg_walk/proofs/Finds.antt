@@ -13,11 +13,11 @@ use Rattle.hg_compare.specs.declared.looked.Looked.TheVariants as a_look
 use Rattle.hg_entry.specs.Entry.{EntryData, StampData}
 use Rattle.hg_entry.specs.Steps.{seen_clean}
 use Rattle.hg_entry.specs.Table.{marks_of}
-use Rattle.hg_flat.specs.Course.{ComparesFound, IsComparedBy, IsFound, contents_then, letter_of, upto}
+use Rattle.hg_flat.specs.Course.{ComparesFound, IsComparedBy, IsFound, letter_of, upto}
 use Rattle.hg_flat.specs.Met.{Status}
 use Rattle.hg_flat.specs.Parent.{HasContents, IsServed, manifest_at, parent_rows, row_among, row_of}
 use Rattle.hg_flat.specs.declared.parent.Parent.{Parent}
-use Rattle.hg_manifest.specs.Load.{Stays}
+use Rattle.hg_shelf.specs.Polite.{StaysIn}
 use Rattle.hg_manifest.specs.Rows.{Rows}
 use Rattle.hg_manifest.specs.declared.fault.ManifestFault.{ManifestFault}
 use Rattle.hg_manifest.specs.declared.row.FileRow.{FileRow}
@@ -30,7 +30,7 @@ use Rattle.hg_tree.specs.Moment.{Moment, stat_at}
 use Rattle.hg_tree.specs.declared.thing.Placed.{Placed}
 use Rattle.hg_tree.specs.declared.thing.Thing.{Thing}
 use Rattle.hg_tree.specs.declared.thing.Thing.TheVariants as a_thing
-use Rattle.hg_walk.specs.Finding.{HasLetter, WasClock, rows_then, stamp_after}
+use Rattle.hg_walk.specs.Finding.{HasLetter, WasClock, rows_by, stamp_after}
 use Rattle.hg_walk.specs.Trust.{IsEarned}
 use Rattle.hg_walk.proofs.Noted.{noted_is_earned}
 
@@ -104,32 +104,32 @@ found_same files id moment path same = record {
 pub vouched_letter : (path : List ℕ) (entry : EntryData) (copied : Bool) (before : Stat) (copy : trees.History) (files : shelves.History) → vouches entry copied before ≡ true
     → (s : Status) (parent : Parent)
     → HasLetter (record { path = path; entry = entry; copied = copied; before = before; tree_old = copy; tree_new = copy; shelf_old = files; shelf_new = files }) s parent a_letter.C
-vouched_letter path entry copied before copy files vouched s parent table reached right recorded stays keeps =
-    found_same (shelves.now s.shelf_old).files s.id (trees.now copy) path
-    (clean_by entry.w (is_file_or_link ((trees.now copy).things path)) entry.p2 entry.p1 copied (is_unchanged (rows_then s path) ((trees.now copy).things path))
-    (subst (λ (b : Bool). tracked_letter (rows_then s path) (marks_of entry) b ((trees.now copy).things path) ≡ Some a_letter.C) (sym recorded.copied)
+vouched_letter path entry copied before copy files vouched s parent store table reached right recorded stays keeps =
+    found_same store s.id (trees.now copy) path
+    (clean_by entry.w (is_file_or_link ((trees.now copy).things path)) entry.p2 entry.p1 copied (is_unchanged (rows_by store s path) ((trees.now copy).things path))
+    (subst (λ (b : Bool). tracked_letter (rows_by store s path) (marks_of entry) b ((trees.now copy).things path) ≡ Some a_letter.C) (sym recorded.copied)
     ((right vouched).clean copy.last path entry before reached.goes.tree.past.later (omega arith) recorded.entry reached.shown
     (subst (λ (b : Bool). vouches entry b before ≡ true) recorded.copied vouched))))
 
 -- ---- a path that is compared
 
 -- what is noted of it is earned
-pub noted_earned : (s : Status) (copy later : trees.History) (files : shelves.History) (path : List ℕ) (before : Stat) (boundary : Time) (looked : Looked) (stamp : StampData) (entry : EntryData)
-    → IsComparedBy (upto s later files) copy path before looked → stamp_after looked before.mtime boundary ≡ Some stamp → trees.Extends copy later → IsHonest later → IsTrue copy.told
-    → WasClock copy boundary → stat_at (trees.now copy) path ≡ Some before → IsEarned (rows_then s) later path (seen_clean entry before stamp) stamp
-noted_earned s copy later files path before boundary (a_look.Same true) stamp entry compared is past honest told clock shown = by compared.found compared.rows compared.stays compared.compared
+pub noted_earned : (store : shelves.Files) (s : Status) (copy later : trees.History) (files : shelves.History) (path : List ℕ) (before : Stat) (boundary : Time) (looked : Looked) (stamp : StampData) (entry : EntryData)
+    → IsComparedBy store (upto s later files) copy path before looked → stamp_after looked before.mtime boundary ≡ Some stamp → trees.Extends copy later → IsHonest later → IsTrue copy.told
+    → WasClock copy boundary → stat_at (trees.now copy) path ≡ Some before → IsEarned (rows_by store s) later path (seen_clean entry before stamp) stamp
+noted_earned store s copy later files path before boundary (a_look.Same true) stamp entry compared is past honest told clock shown = by compared.found compared.rows compared.stays compared.compared
   where
-    by : (found : Option FileRow) → rows_then s path ≡ option_map (λ row. parent_row row (contents_then s row)) found
-        → IfSome found (λ row. Stays compared.since files (contents_name row.id.0) (contents_then s row))
-        → ComparesFound path copy later compared.since files found before (a_look.Same true) → IsEarned (rows_then s) later path (seen_clean entry before stamp) stamp
+    by : (found : Option FileRow) → rows_by store s path ≡ option_map (λ row. parent_row row (store (contents_name row.id.0))) found
+        → IfSome found (λ row. StaysIn store files compared.since.last (contents_name row.id.0))
+        → ComparesFound path copy later compared.since files found before (a_look.Same true) → IsEarned (rows_by store s) later path (seen_clean entry before stamp) stamp
     by None rows stays saw = absurd (cc saw)
     by (Some row) rows stays saw =
-        noted_is_earned (record { path = path; name = contents_name row.id.0; tree_old = copy; tree_new = later; shelf_old = compared.since; shelf_new = files }) row before (contents_then s row) boundary stamp
-        (rows_then s) entry clock.at copy.last past honest told compared.told stays clock.within (omega arith) (clock.is ∙ ap (λ (m : Moment). m.clock) (sym (past.stay clock.at clock.within)))
+        noted_is_earned (record { path = path; name = contents_name row.id.0; tree_old = copy; tree_new = later; shelf_old = compared.since; shelf_new = files }) row before store boundary stamp
+        (rows_by store s) entry clock.at copy.last past honest told compared.told stays clock.within (omega arith) (clock.is ∙ ap (λ (m : Moment). m.clock) (sym (past.stay clock.at clock.within)))
         (ap (λ (m : Moment). stat_at m path) (past.stay copy.last (omega arith)) ∙ shown) saw is rows
-noted_earned s copy later files path before boundary (a_look.Same false) stamp entry compared is past honest told clock shown = absurd (cc is)
-noted_earned s copy later files path before boundary a_look.Differs stamp entry compared is past honest told clock shown = absurd (cc is)
-noted_earned s copy later files path before boundary a_look.Gone stamp entry compared is past honest told clock shown = absurd (cc is)
+noted_earned store s copy later files path before boundary (a_look.Same false) stamp entry compared is past honest told clock shown = absurd (cc is)
+noted_earned store s copy later files path before boundary a_look.Differs stamp entry compared is past honest told clock shown = absurd (cc is)
+noted_earned store s copy later files path before boundary a_look.Gone stamp entry compared is past honest told clock shown = absurd (cc is)
 
 -- a time is noted behind a comparison that was the same
 pub noted_clean : (looked : Looked) (time boundary : Time) (stamp : StampData) → stamp_after looked time boundary ≡ Some stamp → (letter_of looked ≡ a_letter.C) × (stamp_of time boundary ≡ Some stamp)
@@ -139,11 +139,11 @@ noted_clean a_look.Differs time boundary stamp is = absurd (cc is)
 noted_clean a_look.Gone time boundary stamp is = absurd (cc is)
 
 -- of a path that stays the comparison is settled, and its time is noted
-pub noted_settled : (s : Status) (copy later : trees.History) (files : shelves.History) (path : List ℕ) (before : Stat) (boundary : Time) (looked : Looked)
-    → IsComparedBy (upto s later files) copy path before looked → trees.Extends copy later → IsTrue copy.told → StaysShown copy later path → stat_at (trees.now copy) path ≡ Some before
+pub noted_settled : (store : shelves.Files) (s : Status) (copy later : trees.History) (files : shelves.History) (path : List ℕ) (before : Stat) (boundary : Time) (looked : Looked)
+    → IsComparedBy store (upto s later files) copy path before looked → trees.Extends copy later → IsTrue copy.told → StaysShown copy later path → stat_at (trees.now copy) path ≡ Some before
     → letter_of looked ≡ a_letter.C → stamp_after looked before.mtime boundary ≡ stamp_of before.mtime boundary
-noted_settled s copy later files path before boundary (a_look.Same true) compared past told stays shown clean = refl
-noted_settled s copy later files path before boundary (a_look.Same false) compared past told stays shown clean = absurd (by compared.found compared.compared)
+noted_settled store s copy later files path before boundary (a_look.Same true) compared past told stays shown clean = refl
+noted_settled store s copy later files path before boundary (a_look.Same false) compared past told stays shown clean = absurd (by compared.found compared.compared)
   where
     by : (found : Option FileRow) → ComparesFound path copy later compared.since files found before (a_look.Same false) → ⊥
     by None saw = absurd (cc saw)
@@ -152,8 +152,8 @@ noted_settled s copy later files path before boundary (a_look.Same false) compar
         let last : stat_at (trees.now later) path ≡ Some before =
         stays.stat later.last past.later (omega arith) ∙ ap (λ (m : Moment). stat_at m path) (past.stay copy.last (omega arith)) ∙ shown in
         let after : Some ends.0 ≡ Some before = sym ends.1 ∙ last in ends.2 (cc after)
-noted_settled s copy later files path before boundary a_look.Differs compared past told stays shown clean = absurd (cc clean)
-noted_settled s copy later files path before boundary a_look.Gone compared past told stays shown clean = absurd (cc clean)
+noted_settled store s copy later files path before boundary a_look.Differs compared past told stays shown clean = absurd (cc clean)
+noted_settled store s copy later files path before boundary a_look.Gone compared past told stays shown clean = absurd (cc clean)
 
 pub if_some_is : {A : Type 0} (o : Option A) (P : A → Type 0) → ((a : A) → o ≡ Some a → P a) → IfSome o P
 if_some_is None P each = tt

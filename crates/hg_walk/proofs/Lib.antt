@@ -1,6 +1,7 @@
 pub mod Again
 pub mod Applied
 pub mod Cached
+pub mod Earlier
 pub mod Finds
 pub mod Growing
 pub mod Keeps

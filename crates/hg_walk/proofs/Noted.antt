@@ -14,9 +14,11 @@ use Rattle.hg_compare.specs.Same.{IsSame, parent_row}
 use Rattle.hg_compare.specs.Seen.{Compared, HasByte, Holds, SeesByte, Shows}
 use Rattle.hg_compare.specs.Tracked.{equal_bools}
 use Rattle.hg_entry.specs.Steps.{is_link}
-use Rattle.hg_manifest.specs.Load.{Stays}
+use Rattle.hg_manifest.proofs.Loads.{was_in}
 use Rattle.hg_manifest.specs.declared.row.FileRow.{FileRow}
 use Rattle.hg_mtime.proofs.Tests.{stamp_tells}
+use Rattle.hg_shelf.specs.History.{Files}
+use Rattle.hg_shelf.specs.Polite.{StaysIn}
 use Rattle.hg_shelf.specs.Reads.{size_of}
 use Rattle.hg_tree.specs.History.{Extends, now}
 use Rattle.hg_tree.specs.Honest.{Face, IsHonest, face, face_of, face_with}
@@ -39,10 +41,6 @@ same_text (x ∷ xs) (y ∷ ys) same = let first = same zero in let rest = same_
 sized : (file : Option (List ℕ)) (size : ℕ) → size_of file ≡ Some size → (text : List ℕ) × (file ≡ Some text) × (length text ≡ size)
 sized None size is = absurd (cc is)
 sized (Some text) size is = (text, refl, cc is)
-
--- what a call saw of a file below `.hg` that stays
-held : (c : Compared) (P : Option (List ℕ) → Type 0) (file : Option (List ℕ)) → IsTrue c.shelf_old.told → Stays c.shelf_old c.shelf_new c.name file → Holds c P → P file
-held c P file told stays is = subst P (stays is.at (is.during told)) (is.so told)
 
 -- ---- what stands there has the row's kind, and the bytes of its face
 
@@ -104,18 +102,18 @@ alike_kind row a_kind.Other exec alike = absurd (cc alike)
 
 -- ---- the bytes are the file's
 
-module _ (c : Compared) (before : Stat) (file : Option (List ℕ)) (boundary : Time) (b i : ℕ) (p : Extends c.tree_old c.tree_new) (honest : IsHonest c.tree_new) (told : IsTrue c.tree_old.told)
-    (kept_told : IsTrue c.shelf_old.told) (stays : Stays c.shelf_old c.shelf_new c.name file) (first : b ≤ i) (second : i ≤ c.tree_old.last) (clock : boundary ≡ (c.tree_new.at b).clock)
+module _ (c : Compared) (before : Stat) (store : Files) (boundary : Time) (b i : ℕ) (p : Extends c.tree_old c.tree_new) (honest : IsHonest c.tree_new) (told : IsTrue c.tree_old.told)
+    (kept_told : IsTrue c.shelf_old.told) (stays : StaysIn store c.shelf_new c.shelf_old.last c.name) (first : b ≤ i) (second : i ≤ c.tree_old.last) (clock : boundary ≡ (c.tree_new.at b).clock)
     (look : stat_at (c.tree_new.at i) c.path ≡ Some before) (last : stat_at (now c.tree_new) c.path ≡ Some before) (kind : before.kind ≢ a_kind.Other) (past : IsBefore before.mtime boundary) where
   -- one face at all moments from the first look to the last
   one_face : (l : ℕ) → i ≤ l → l ≤ c.tree_new.last → IsBetween c.tree_new c.path before i l c.tree_new.last
   one_face l from upto = between c.tree_new honest boundary c.path before b i l c.tree_new.last first from upto (omega arith) clock look last kind past
 
-  same_file : (own : List ℕ) → bytes_at (now c.tree_new) c.path ≡ Some own → length own ≡ before.size → IsSame c before → file ≡ Some own
+  same_file : (own : List ℕ) → bytes_at (now c.tree_new) c.path ≡ Some own → length own ≡ before.size → IsSame c before → store c.name ≡ Some own
   same_file own is long same = text.1 ∙ ap Some (same_text text.0 own each)
     where
-      text : (text : List ℕ) × (file ≡ Some text) × (length text ≡ before.size)
-      text = sized file before.size (held c (λ f. size_of f ≡ Some before.size) file kept_told stays same.size)
+      text : (text : List ℕ) × (store c.name ≡ Some text) × (length text ≡ before.size)
+      text = sized (store c.name) before.size (was_in store c.shelf_old c.shelf_new c.name (λ f. size_of f ≡ Some before.size) kept_told stays (λ none. absurd (cc none)) same.size)
 
       mine : (k : ℕ) (byte : Option ℕ) → Shows c (λ moment. HasByte k byte (bytes_at moment c.path)) → slice_get own k ≡ byte
       mine k byte saw =
@@ -125,7 +123,7 @@ module _ (c : Compared) (before : Stat) (file : Option (List ℕ)) (boundary : T
           subst (HasByte k byte) bytes (saw.so told)
 
       theirs : (k : ℕ) (byte : Option ℕ) → Holds c (HasByte k byte) → slice_get text.0 k ≡ byte
-      theirs k byte saw = subst (HasByte k byte) text.1 (held c (HasByte k byte) file kept_told stays saw)
+      theirs k byte saw = subst (HasByte k byte) text.1 (was_in store c.shelf_old c.shelf_new c.name (HasByte k byte) kept_told stays (λ none. none) saw)
 
       each : (k : ℕ) → slice_get text.0 k ≡ slice_get own k
       each k =
@@ -135,18 +133,18 @@ module _ (c : Compared) (before : Stat) (file : Option (List ℕ)) (boundary : T
           ]
 
 pub noted_is_earned : NotedIsEarned
-noted_is_earned c row before file boundary stamp rows entry b i p honest told kept_told stays first second clock look compared is stands =
+noted_is_earned c row before store boundary stamp rows entry b i p honest told kept_told stays first second clock look compared is stands =
     let alike : is_alike row before ≡ true = compared.0 in
     let ends = compared.2 told in
     let last : stat_at (now c.tree_new) c.path ≡ Some before = ends.1 ∙ ap Some ends.2 in
     let kind = alike_kind row before.kind before.exec alike in
     let stamped = stamp_tells before.mtime boundary stamp is in
-    let at_first = one_face c before file boundary b i p honest told kept_told stays first second clock look last kind stamped.past i (omega arith) (omega (arith, second, p.later)) in
+    let at_first = one_face c before store boundary b i p honest told kept_told stays first second clock look last kind stamped.past i (omega arith) (omega (arith, second, p.later)) in
     let read = read_placed row ((now c.tree_new).things c.path) _ before last alike in
-    let whole : file ≡ Some (face (now c.tree_new) c.path).bytes =
-    same_file c before file boundary b i p honest told kept_told stays first second clock look last kind stamped.past (face (now c.tree_new) c.path).bytes read.bytes read.long compared.1 in
-    let so : IsFaceOf (parent_row row file) (face (now c.tree_new) c.path) = record { kind = read.kind; bytes = whole } in record {
-      row = parent_row row file;
+    let whole : store c.name ≡ Some (face (now c.tree_new) c.path).bytes =
+    same_file c before store boundary b i p honest told kept_told stays first second clock look last kind stamped.past (face (now c.tree_new) c.path).bytes read.bytes read.long compared.1 in
+    let so : IsFaceOf (parent_row row (store c.name)) (face (now c.tree_new) c.path) = record { kind = read.kind; bytes = whole } in record {
+      row = parent_row row (store c.name);
       is = stands;
       flag = alike_file row before.kind before.exec alike;
       seen = record {
@@ -156,6 +154,6 @@ noted_is_earned c row before file boundary stamp rows entry b i p honest told ke
         shown = at_first.shown;
         stamped = stamped.has;
         past = at_first.past;
-        so = subst (IsFaceOf (parent_row row file)) (sym at_first.one) so;
+        so = subst (IsFaceOf (parent_row row (store c.name))) (sym at_first.one) so;
       };
     }

@@ -34,7 +34,7 @@ use Rattle.hg_walk.specs.declared.mark.Mark.{Mark}
 none_there : {A : Type 0} (x : A) → Contains [] x → ⊥
 none_there x (n, below, is) = absurd (omega (arith, below))
 
-either : {A : Type 0} (x : A) (xs : List A) (y : A) → Contains (x ∷ xs) y → (x ≡ y) ⊎ Contains xs y
+pub either : {A : Type 0} (x : A) (xs : List A) (y : A) → Contains (x ∷ xs) y → (x ≡ y) ⊎ Contains xs y
 either x xs y has =
     elim (Contains-append_cases (x ∷ []) xs y has) [
       | inl first ↦ elim (Contains-push_cases [] x y first) [ inl none ↦ absurd (none_there y none) | inr same ↦ inl same ]

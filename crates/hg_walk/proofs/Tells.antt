@@ -1,5 +1,5 @@
 -- What is told of one path of a record: which paths are compared, their letters, and what is noted of them.
-use Rattle.std.proofs.Common.{ℕ, ◌≡◌, Bool, true, false, not, ◌&&◌, ◌||◌, List, [], Option, Some, None, option_map, refl, sym, ap, ◌∙◌, arith}
+use Rattle.std.proofs.Common.{ℕ, ◌≡◌, Bool, true, false, not, ◌&&◌, ◌||◌, List, [], Option, Some, None, option_map, ◌⊎◌, refl, sym, ap, ◌∙◌, arith}
 use Rattle.std.specs.Prelude.{is_some}
 use Rattle.std.proofs.lemmas.Bool.{and_parts}
 use Rattle.hg_base.specs.declared.stat.Stat.{Stat}
@@ -13,6 +13,8 @@ use Rattle.hg_flat.specs.Asked.{AsksReads}
 use Rattle.hg_flat.specs.Course.{IsFound}
 use Rattle.hg_flat.specs.Judged.{IsLeftAsked}
 use Rattle.hg_flat.specs.Listing.{IsAskedRow, is_compared_row, is_file_or_link_kind, marked_letter}
+use Rattle.hg_flat.specs.Met.{Status}
+use Rattle.hg_flat.specs.Needed.{NeedsBytes, ReadsPath}
 use Rattle.hg_flat.specs.Parent.{IsAsked, WasAsked, is_plain_entry}
 use Rattle.hg_flat.specs.declared.kept.FlatRow.{FlatRow}
 use Rattle.hg_flat.specs.declared.parent.Parent.{Parent}
@@ -20,6 +22,7 @@ use Rattle.hg_flat.proofs.Asks.{reads_none, reads_pieces}
 use Rattle.hg_flat.proofs.Faces.{stat_alike, stays_shown}
 use Rattle.hg_flat.proofs.Judging.{AsksAlike, left_ended, letter_by_moved, marks_alike}
 use Rattle.hg_flat.proofs.Letters.{found_read, there_is}
+use Rattle.hg_flat.proofs.Needing.{reads_either, reads_nothing}
 use Rattle.hg_listing.specs.declared.row.Wanted.{Wanted}
 use Rattle.hg_mixed.specs.Gathered.{path_of}
 use Rattle.hg_mixed.specs.declared.line.Line.{Line}
@@ -152,11 +155,11 @@ module _ (wanted : Wanted) (t : Table) (child : Line) (entry : Entry) (of : IsCh
 
   -- ---- its letter
 
-  abbrev Left : trees.History → trees.History → shelves.History → shelves.History → List ℕ → Type 0
-  Left old new begun later path = IsLeftAsked (asked_unvouched wanted t) (first_id t) new old.last later begun.last path
+  abbrev Left : shelves.Files → trees.History → trees.History → shelves.History → shelves.History → List ℕ → Type 0
+  Left store old new begun later path = IsLeftAsked store (asked_unvouched wanted t) (first_id t) new old.last later begun.last path
 
   -- the letter that is found by the entry or by a comparison
-  pub letter_found : (start old new : trees.History) (begun files later : shelves.History) (parent : Parent) (there : Stat) (letter : Letter) → (view entry).w ≡ true
+  pub letter_found : (store : shelves.Files) (start old new : trees.History) (begun files later : shelves.History) (parent : Parent) (there : Stat) (letter : Letter) → (view entry).w ≡ true
       → IsAtChild (walk_status wanted t start old begun files) t parent child → ShowsNow old (path_of child) there → trees.Extends old new
       → marked_letter (tracked_row child entry) there ≡ None → is_compared_row wanted (tracked_row child entry) ≡ true → is_file_or_link_kind there.kind ≡ true
       → HasLetter
@@ -171,20 +174,20 @@ module _ (wanted : Wanted) (t : Table) (child : Line) (entry : Entry) (of : IsCh
         shelf_new = later;
       })
       (walk_status wanted t start old begun files) parent letter
-      → IsLetterOf (AreRight (rows_in t (shelves.now begun).files) t start new) (walk_status wanted t old new begun later) (tracked_row child entry) (Some letter)
-  letter_found start old new begun files later parent there letter w come shown past none compared kind found = record {
+      → IsLetterOf store (AreRight (rows_in t store) t start new) (walk_status wanted t old new begun later) (tracked_row child entry) (Some letter)
+  letter_found store start old new begun files later parent there letter w come shown past none compared kind found = record {
     right = λ right.
-        (found_read (λ k. Left old new begun later k.path) (shelves.now begun).files (walk_status wanted t old new begun later).id (trees.now old) wanted (tracked_row child entry) there letter w
+        (found_read (λ k. Left store old new begun later k.path) store (walk_status wanted t old new begun later).id (trees.now old) wanted (tracked_row child entry) there letter w
         (λ meets. shown (sym past.told ∙ meets.own.told)) none (judged (λ vouched. right))).right;
     served = λ meets asked.
         let unvouched = asked_unvouches (trees.now old) there (shown (sym past.told ∙ meets.own.told)) asked in (judged (λ vouched. absurd (cc (unvouched, vouched))) meets).served;
   }
     where
-      judged : (vouches (view entry) (copied_in child) there ≡ true → AreRight (rows_in t (shelves.now begun).files) t start new) → Left old new begun later (path_of child)
-          → IsFound (shelves.now begun).files (walk_status wanted t old new begun later).id (trees.now old) (path_of child) letter
+      judged : (vouches (view entry) (copied_in child) there ≡ true → AreRight (rows_in t store) t start new) → Left store old new begun later (path_of child)
+          → IsFound store (walk_status wanted t old new begun later).id (trees.now old) (path_of child) letter
       judged right meets =
           let told = sym past.told ∙ meets.own.told in
-          found t (record { goes = come.goes; told = told; shown = shown told }) right (record { entry = child_entry t child entry of is; copied = child_copied t child of })
+          found store t (record { goes = come.goes; told = told; shown = shown told }) right (record { entry = child_entry t child entry of is; copied = child_copied t child of })
           (stays_shown old new (path_of child) meets.own)
           (λ unvouched.
           meets.row (asked_here (new.at old.last) there compared kind unvouched (ap (λ (m : Moment). stat_at m (path_of child)) (past.stay old.last (omega arith)) ∙ shown told)))
@@ -200,6 +203,21 @@ module _ (wanted : Wanted) (t : Table) (child : Line) (entry : Entry) (of : IsCh
       by true vouched = reads_none (WasAsked (asked_unvouched wanted t) old new) old new (ap (λ (h : trees.History). h.asked) (unread vouched))
       by false none = reads_pieces (WasAsked (asked_unvouched wanted t) old new) there.size (path_of child) old new (was_asked old new there past compared kind none shown) reads
 
+  -- where the entry vouches nothing is read, and else only what is needed
+  pub reads_needed : (start old new : trees.History) (begun files later : shelves.History) (there : Stat) → trees.Passes start old → trees.Passes old new → is_compared_row wanted (tracked_row child entry) ≡ true
+      → is_file_or_link_kind there.kind ≡ true → ShowsNow old (path_of child) there → (vouches (view entry) (copied_in child) there ≡ true → new.asked ≡ old.asked) → Reads there.size (path_of child) old new
+      → {A : Type 0} (f : A → trees.History) (x y : A) → f x ≡ new → f y ≡ old → (x ≡ y) ⊎ NeedsBytes (walk_status wanted t start new begun later) (path_of child) there
+      → ReadsPath (walk_status wanted t start new begun later) old (path_of child)
+  reads_needed start old new begun files later there before past compared kind shown unread reads f x y is_new is_old needed = by (vouches (view entry) (copied_in child) there) refl needed
+    where
+      s : Status
+      s = walk_status wanted t start new begun later
+
+      by : (b : Bool) → vouches (view entry) (copied_in child) there ≡ b → (x ≡ y) ⊎ NeedsBytes s (path_of child) there → ReadsPath s old (path_of child)
+      by true vouched any = reads_nothing s old (path_of child) (unread vouched)
+      by false none any =
+          reads_either (walk_status wanted t start old begun files) old new later (path_of child) there before past (λ told. asked_here (trees.now old) there compared kind none (shown told)) shown reads f x y is_new is_old any
+
   -- where the path isn't compared, its entry vouches
   pub unasked_found : {A : Type 0} (now before : A) (old new : trees.History) (there : Stat) → trees.Extends old new → is_compared_row wanted (tracked_row child entry) ≡ true → is_file_or_link_kind there.kind ≡ true
       → ShowsNow old (path_of child) there → (vouches (view entry) (copied_in child) there ≡ true → now ≡ before) → (WasAsked (asked_unvouched wanted t) old new (path_of child) → ⊥) → now ≡ before
@@ -212,10 +230,10 @@ module _ (wanted : Wanted) (t : Table) (child : Line) (entry : Entry) (of : IsCh
 -- ---- behind a look
 
 -- a letter that is found behind a look is that of the call
-pub letter_later : (wanted : Wanted) (t : Table) (R : Type 0) (old mid new : trees.History) (begun later : shelves.History) (row : FlatRow) (letter : Option Letter) → trees.Extends old mid → trees.Extends mid new
-    → IsLetterOf R (walk_status wanted t mid new begun later) row letter → IsLetterOf R (walk_status wanted t old new begun later) row letter
-letter_later wanted t R old mid new begun later row letter first second is =
+pub letter_later : (wanted : Wanted) (t : Table) (store : shelves.Files) (R : Type 0) (old mid new : trees.History) (begun later : shelves.History) (row : FlatRow) (letter : Option Letter) → trees.Extends old mid → trees.Extends mid new
+    → IsLetterOf store R (walk_status wanted t mid new begun later) row letter → IsLetterOf store R (walk_status wanted t old new begun later) row letter
+letter_later wanted t store R old mid new begun later row letter first second is =
     let s = walk_status wanted t old new begun later in
-    letter_by_moved s.asks (unvouched_alike wanted t) R R (λ premise. premise) (IsLeftAsked s.asks s.id new mid.last later begun.last) (IsLeftAsked s.asks s.id new old.last later begun.last) (shelves.now begun).files s.id
-    (trees.now mid) (trees.now old) wanted row letter (left_ended s.asks (unvouched_alike wanted t) s.id old mid new first second later begun.last row.path)
+    letter_by_moved s.asks (unvouched_alike wanted t) R R (λ premise. premise) (IsLeftAsked store s.asks s.id new mid.last later begun.last) (IsLeftAsked store s.asks s.id new old.last later begun.last) store s.id
+    (trees.now mid) (trees.now old) wanted row letter (left_ended store s.asks (unvouched_alike wanted t) s.id old mid new first second later begun.last row.path)
     (λ meets. alike_between old mid new row.path first second meets.own) is

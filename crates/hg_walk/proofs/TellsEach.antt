@@ -1,5 +1,5 @@
 -- What is told of paths of a record one behind another: their rows, and what looks showed.
-use Rattle.std.proofs.Common.{ℕ, ◌≡◌, ◌≤◌, ◌<◌, Bool, true, false, not, zero, suc, List, [], ◌∷◌, ◌++◌, length, get_or, Option, Some, None, option_map, true≢false, refl, sym, ap, ◌∙◌, subst, arith}
+use Rattle.std.proofs.Common.{ℕ, ◌≡◌, ◌<◌, Bool, true, false, not, zero, suc, List, [], ◌∷◌, ◌++◌, length, get_or, Option, Some, None, option_map, true≢false, refl, sym, ap, ◌∙◌, subst, arith}
 use Rattle.std.specs.Prelude.{IsTrue, is_some}
 use Rattle.std.proofs.lemmas.List.{append-nil, append_assoc}
 use Rattle.hg_base.specs.declared.stat.Stat.{Stat}
@@ -35,41 +35,41 @@ rows_append [] ys = refl
 rows_append (child ∷ xs) ys = ap (λ (l : List FlatRow). rows_with child child.entry ++ l) (rows_append xs ys) ∙ sym (append_assoc (rows_with child child.entry) (tracked_rows xs) (tracked_rows ys))
 
 -- rows that were put in the first part of a pass, and others in the second, were put in the pass
-pub tells_more : (wanted : Wanted) (t : Table) (P Q R : Type 0) → (R → P) → (R → Q) → (old mid new : trees.History) (begun files later : shelves.History) → trees.Extends old mid → trees.Extends mid new → shelves.Extends files later
-    → begun.last ≤ files.last → (xs ys : List Line) (a b c : List Row) → TellsEach P (walk_status wanted t old mid begun files) xs a b → TellsEach Q (walk_status wanted t mid new begun later) ys b c
-    → TellsEach R (walk_status wanted t old new begun later) (xs ++ ys) a c
-tells_more wanted t P Q R one_premise two_premise old mid new begun files later first second past within xs ys a b c before behind =
+pub tells_more : (wanted : Wanted) (t : Table) (store : shelves.Files) (P Q R : Type 0) → (R → P) → (R → Q) → (old mid new : trees.History) (begun files later : shelves.History) → trees.Extends old mid → trees.Extends mid new → shelves.Extends files later
+    → (xs ys : List Line) (a b c : List Row) → TellsEach store P (walk_status wanted t old mid begun files) xs a b → TellsEach store Q (walk_status wanted t mid new begun later) ys b c
+    → TellsEach store R (walk_status wanted t old new begun later) (xs ++ ys) a c
+tells_more wanted t store P Q R one_premise two_premise old mid new begun files later first second past xs ys a b c before behind =
     let s = walk_status wanted t old new begun later in
     subst
-    (λ (rows : List FlatRow). AddsBy s.asks R (IsLeftAsked s.asks s.id new old.last later begun.last) (shelves.now begun).files s.id (trees.now old) wanted rows a c)
+    (λ (rows : List FlatRow). AddsBy s.asks R (IsLeftAsked store s.asks s.id new old.last later begun.last) store s.id (trees.now old) wanted rows a c)
     (sym (rows_append xs ys))
-    (adds_more (asked_unvouched wanted t) (unvouched_alike wanted t) P Q R one_premise two_premise wanted s.id old mid new first second files later begun.last past within (shelves.now begun).files (tracked_rows xs)
+    (adds_more (asked_unvouched wanted t) (unvouched_alike wanted t) P Q R one_premise two_premise wanted s.id old mid new first second files later begun.last past store (tracked_rows xs)
     (tracked_rows ys) a b c before behind)
 
-pub tells_none : (wanted : Wanted) (t : Table) (R : Type 0) (old new : trees.History) (begun later : shelves.History) (rows : List Row) → TellsEach R (walk_status wanted t old new begun later) [] rows rows
-tells_none wanted t R old new begun later rows =
+pub tells_none : (wanted : Wanted) (t : Table) (store : shelves.Files) (R : Type 0) (old new : trees.History) (begun later : shelves.History) (rows : List Row) → TellsEach store R (walk_status wanted t old new begun later) [] rows rows
+tells_none wanted t store R old new begun later rows =
     let s = walk_status wanted t old new begun later in
-    adds_none s.asks R (IsLeftAsked s.asks s.id new old.last later begun.last) (shelves.now begun).files s.id (trees.now old) wanted rows
+    adds_none s.asks R (IsLeftAsked store s.asks s.id new old.last later begun.last) store s.id (trees.now old) wanted rows
 
 -- a child without an entry has no row
-pub tells_bare : (wanted : Wanted) (t : Table) (R : Type 0) (old new : trees.History) (begun later : shelves.History) (child : Line) (rows : List Row) → child.entry ≡ None
-    → TellsEach R (walk_status wanted t old new begun later) (child ∷ []) rows rows
-tells_bare wanted t R old new begun later child rows none =
+pub tells_bare : (wanted : Wanted) (t : Table) (store : shelves.Files) (R : Type 0) (old new : trees.History) (begun later : shelves.History) (child : Line) (rows : List Row) → child.entry ≡ None
+    → TellsEach store R (walk_status wanted t old new begun later) (child ∷ []) rows rows
+tells_bare wanted t store R old new begun later child rows none =
     let s = walk_status wanted t old new begun later in
     subst
-    (λ (own : List FlatRow). AddsBy s.asks R (IsLeftAsked s.asks s.id new old.last later begun.last) (shelves.now begun).files s.id (trees.now old) wanted own rows rows)
-    (sym (append-nil (rows_with child child.entry) ∙ ap (rows_with child) none)) (tells_none wanted t R old new begun later rows)
+    (λ (own : List FlatRow). AddsBy s.asks R (IsLeftAsked store s.asks s.id new old.last later begun.last) store s.id (trees.now old) wanted own rows rows)
+    (sym (append-nil (rows_with child child.entry) ∙ ap (rows_with child) none)) (tells_none wanted t store R old new begun later rows)
 
 -- the row of a child with an entry
-pub tells_one : (wanted : Wanted) (t : Table) (R : Type 0) (old new : trees.History) (begun later : shelves.History) (child : Line) (entry : Entry) (letter : Option Letter) (a b : List Row) → child.entry ≡ Some entry
-    → IsLetterOf R (walk_status wanted t old new begun later) (tracked_row child entry) letter → b ≡ a ++ rows_under wanted (tracked_row child entry) letter
-    → TellsEach R (walk_status wanted t old new begun later) (child ∷ []) a b
-tells_one wanted t R old new begun later child entry letter a b is found put =
+pub tells_one : (wanted : Wanted) (t : Table) (store : shelves.Files) (R : Type 0) (old new : trees.History) (begun later : shelves.History) (child : Line) (entry : Entry) (letter : Option Letter) (a b : List Row) → child.entry ≡ Some entry
+    → IsLetterOf store R (walk_status wanted t old new begun later) (tracked_row child entry) letter → b ≡ a ++ rows_under wanted (tracked_row child entry) letter
+    → TellsEach store R (walk_status wanted t old new begun later) (child ∷ []) a b
+tells_one wanted t store R old new begun later child entry letter a b is found put =
     let s = walk_status wanted t old new begun later in
     subst
-    (λ (own : List FlatRow). AddsBy s.asks R (IsLeftAsked s.asks s.id new old.last later begun.last) (shelves.now begun).files s.id (trees.now old) wanted own a b)
+    (λ (own : List FlatRow). AddsBy s.asks R (IsLeftAsked store s.asks s.id new old.last later begun.last) store s.id (trees.now old) wanted own a b)
     (sym (append-nil (rows_with child child.entry) ∙ ap (rows_with child) is))
-    (adds_one s.asks R (IsLeftAsked s.asks s.id new old.last later begun.last) (shelves.now begun).files s.id (trees.now old) wanted (tracked_row child entry) letter a b found put)
+    (adds_one s.asks R (IsLeftAsked store s.asks s.id new old.last later begun.last) store s.id (trees.now old) wanted (tracked_row child entry) letter a b found put)
 
 -- ---- marks
 

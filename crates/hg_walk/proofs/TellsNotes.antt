@@ -41,7 +41,7 @@ use Rattle.hg_tree.proofs.Faces.{past_honest}
 use Rattle.hg_tree.specs.Still.{Untouched}
 use Rattle.hg_tree.proofs.Histories.{extends_same}
 use Rattle.hg_tree.proofs.Stillness.{alike_at, alike_between, untouched_first, untouched_second}
-use Rattle.hg_walk.specs.Finding.{IsEarnedBy, IsNoted, IsNotedIfClean, Look, rows_then}
+use Rattle.hg_walk.specs.Finding.{IsEarnedBy, IsNoted, IsNotedIfClean, Look, rows_by}
 use Rattle.hg_walk.specs.Notes.{CleanNote, IsCleanNote, clean_at}
 use Rattle.hg_walk.specs.Telling.{AreNotesOf, IsAtChild, IsChildOf, ShowsNow, WasShown, copied_in, notes_of, tracked_row}
 use Rattle.hg_walk.specs.Walking.{IsNeededNote, walk_status}
@@ -68,10 +68,10 @@ clean_parts false there true false copied same is = absurd (cc is)
 clean_parts false there false false copied same is = absurd (cc is)
 
 -- a record says of a child's path that it is clean, where it shows that
-abbrev IsCleanThere : Status → Table → Line → EntryData → Stat → Type 0
-IsCleanThere s t child entry stat =
+abbrev IsCleanThere : shelves.Files → Status → Table → Line → EntryData → Stat → Type 0
+IsCleanThere store s t child entry stat =
     (t.entries (path_of child) ≡ Some entry) × (stat_at (trees.now s.tree_old) (path_of child) ≡ Some stat)
-    × (tracked_letter (rows_then s (path_of child)) (marks_of entry) (is_some (t.sources (path_of child))) ((trees.now s.tree_old).things (path_of child)) ≡ Some a_letter.C)
+    × (tracked_letter (rows_by store s (path_of child)) (marks_of entry) (is_some (t.sources (path_of child))) ((trees.now s.tree_old).things (path_of child)) ≡ Some a_letter.C)
 
 some_is : {A : Type 0} (a b : A) → Some a ≡ Some b → a ≡ b
 some_is a b is = cc is
@@ -81,36 +81,36 @@ module _ (s : Status) (t : Table) (child : Line) (entry : Entry) (of : IsChildOf
   same_entry : (other : EntryData) → t.entries (path_of child) ≡ Some other → other ≡ view entry
   same_entry other has = some_is other (view entry) (sym has ∙ child_entry t child entry of is)
 
-  clean_here : (other : EntryData) (stat : Stat) → IsCleanThere s t child other stat
+  clean_here : (store : shelves.Files) (other : EntryData) (stat : Stat) → IsCleanThere store s t child other stat
       → (((view entry).w && (view entry).p1 && not (view entry).p2 && not (copied_in child)) ≡ true) × (is_file_or_link ((trees.now s.tree_old).things (path_of child)) ≡ true)
-      × (is_unchanged (rows_then s (path_of child)) ((trees.now s.tree_old).things (path_of child)) ≡ true)
-  clean_here other stat (has, shown, clean) =
+      × (is_unchanged (rows_by store s (path_of child)) ((trees.now s.tree_old).things (path_of child)) ≡ true)
+  clean_here store other stat (has, shown, clean) =
       clean_parts (view entry).w (is_file_or_link ((trees.now s.tree_old).things (path_of child))) (view entry).p2 (view entry).p1 (copied_in child)
-      (is_unchanged (rows_then s (path_of child)) ((trees.now s.tree_old).things (path_of child)))
-      (subst (λ (b : Bool). tracked_letter (rows_then s (path_of child)) (marks_of (view entry)) b ((trees.now s.tree_old).things (path_of child)) ≡ Some a_letter.C) (sym (child_copied t child of))
-      (subst (λ (e : EntryData). tracked_letter (rows_then s (path_of child)) (marks_of e) (is_some (t.sources (path_of child))) ((trees.now s.tree_old).things (path_of child)) ≡ Some a_letter.C) (same_entry other has) clean))
+      (is_unchanged (rows_by store s (path_of child)) ((trees.now s.tree_old).things (path_of child)))
+      (subst (λ (b : Bool). tracked_letter (rows_by store s (path_of child)) (marks_of (view entry)) b ((trees.now s.tree_old).things (path_of child)) ≡ Some a_letter.C) (sym (child_copied t child of))
+      (subst (λ (e : EntryData). tracked_letter (rows_by store s (path_of child)) (marks_of e) (is_some (t.sources (path_of child))) ((trees.now s.tree_old).things (path_of child)) ≡ Some a_letter.C) (same_entry other has) clean))
 
 -- ---- nothing is noted
 
 -- no letter that bytes decide is wanted, or the path isn't clean at the start
 abbrev NoneClean : Status → Table → Line → Type 0
 NoneClean s t child =
-    IsTrue s.tree_old.told → Untouched s.tree_new s.tree_old.last (path_of child) → wants_bytes s.wanted ≡ true → (entry : EntryData) (stat : Stat) → IsCleanThere s t child entry stat → ⊥
+    IsTrue s.tree_old.told → Untouched s.tree_new s.tree_old.last (path_of child) → wants_bytes s.wanted ≡ true → (store : shelves.Files) (entry : EntryData) (stat : Stat) → IsCleanThere store s t child entry stat → ⊥
 
 notes_none : (s : Status) (t : Table) (boundary : Time) (child : Line) → NoneClean s t child → AreNotesOf s t boundary (child ∷ []) []
 notes_none s t boundary child none = record {
   needed = λ note has. absurd (nothing note has);
   stamp = λ note has. absurd (nothing note has);
   shown = λ told note has. absurd (nothing note has);
-  earned = λ honest told clock keeps note has. absurd (nothing note has);
-  recorded = λ told wants other entry stat stamp has left keeps is shown clean unvouched stamped.
+  earned = λ store honest told clock keeps note has. absurd (nothing note has);
+  recorded = λ store told wants other entry stat stamp has left keeps is shown clean unvouched stamped.
       absurd
-      (subst (λ (o : Line). Untouched s.tree_new s.tree_old.last (path_of o) → IsCleanThere s t o entry stat → ⊥) (only_one child other has) (λ alone. none told alone wants entry stat) left
+      (subst (λ (o : Line). Untouched s.tree_new s.tree_old.last (path_of o) → IsCleanThere store s t o entry stat → ⊥) (only_one child other has) (λ alone. none told alone wants store entry stat) left
       (is, shown, clean));
 }
 
 pub notes_unwanted : (s : Status) (t : Table) (boundary : Time) (child : Line) → wants_bytes s.wanted ≡ false → AreNotesOf s t boundary (child ∷ []) []
-notes_unwanted s t boundary child none = notes_none s t boundary child (λ told left wants entry stat clean. cc (none, wants))
+notes_unwanted s t boundary child none = notes_none s t boundary child (λ told left wants store entry stat clean. cc (none, wants))
 
 -- no letter is wanted that takes a look
 pub notes_unlooked : (s : Status) (t : Table) (boundary : Time) (child : Line) → wants_tracked s.wanted ≡ false → AreNotesOf s t boundary (child ∷ []) []
@@ -129,7 +129,7 @@ notes_unlooked s t boundary child none = notes_unwanted s t boundary child (by s
 pub notes_bare : (s : Status) (t : Table) (boundary : Time) (child : Line) → IsChildOf t child → child.entry ≡ None → AreNotesOf s t boundary (child ∷ []) []
 notes_bare s t boundary child of none =
     notes_none s t boundary child
-    (λ told left wants entry stat clean. let has : option_map view child.entry ≡ Some entry = of.entry ∙ clean.0 in cc (none, has))
+    (λ told left wants store entry stat clean. let has : option_map view child.entry ≡ Some entry = of.entry ∙ clean.0 in cc (none, has))
 
 first_of : (w p1 p2 copied : Bool) → (w && p1 && not p2 && not copied) ≡ true → w ≡ true
 first_of true p1 p2 copied is = refl
@@ -139,14 +139,14 @@ first_of false p1 p2 copied is = absurd (cc is)
 pub notes_removed : (s : Status) (t : Table) (boundary : Time) (child : Line) (entry : Entry) → IsChildOf t child → child.entry ≡ Some entry → (view entry).w ≡ false → AreNotesOf s t boundary (child ∷ []) []
 notes_removed s t boundary child entry of is gone =
     notes_none s t boundary child
-    (λ told left wants other stat clean.
-    let w = first_of (view entry).w (view entry).p1 (view entry).p2 (copied_in child) (clean_here s t child entry of is other stat clean).0 in cc (gone, w))
+    (λ told left wants store other stat clean.
+    let w = first_of (view entry).w (view entry).p1 (view entry).p2 (copied_in child) (clean_here s t child entry of is store other stat clean).0 in cc (gone, w))
 
 -- a path at which a look showed nothing
 pub notes_gone : (s : Status) (t : Table) (boundary : Time) (child : Line) → trees.Passes s.tree_old s.tree_new → (IsTrue s.tree_old.told → stat_at (trees.now s.tree_new) (path_of child) ≡ None) → AreNotesOf s t boundary (child ∷ []) []
 notes_gone s t boundary child passes gone =
     notes_none s t boundary child
-    (λ told left wants other stat clean.
+    (λ told left wants store other stat clean.
     let alike = alike_between s.tree_old s.tree_new s.tree_new (path_of child) passes.past (extends_same s.tree_new) left in
     let none : stat_at (trees.now s.tree_old) (path_of child) ≡ None = sym (stat_alike (trees.now s.tree_new) (trees.now s.tree_old) (path_of child) alike) ∙ gone told in
     let some = clean.1 in cc (none, some))
@@ -156,8 +156,8 @@ pub notes_marked : (s : Status) (t : Table) (boundary : Time) (child : Line) (en
     → marked_letter (tracked_row child entry) there ≡ Some letter → AreNotesOf s t boundary (child ∷ []) []
 notes_marked s t boundary child entry there letter of is shown marked =
     notes_none s t boundary child
-    (λ told left wants other stat clean.
-    let plain = clean_here s t child entry of is other stat clean in
+    (λ told left wants store other stat clean.
+    let plain = clean_here s t child entry of is store other stat clean in
     marked_plain (tracked_row child entry) there letter plain.0 (sym (there_is (trees.now s.tree_old) (path_of child) there (shown told)) ∙ plain.1) marked)
 
 -- ---- a path that is compared
@@ -206,33 +206,33 @@ module _ (wanted : Wanted) (t : Table) (start old new : trees.History) (begun fi
   }
 
   -- a clean path that stays is noted as the comparison says
-  noted_so : (stamp : Option StampData) → IsNotedIfClean look here parent boundary stamp → IsTrue old.told → Untouched new old.last (path_of child) → KeepsRow later begun.last here.id (path_of child) → (other : EntryData) (stat : Stat) → IsCleanThere call t child other stat
+  noted_so : (store : shelves.Files) (stamp : Option StampData) → IsNotedIfClean look here parent boundary stamp → IsTrue old.told → Untouched new old.last (path_of child) → KeepsRow store later begun.last here.id (path_of child) → (other : EntryData) (stat : Stat) → IsCleanThere store call t child other stat
       → vouches other (is_some (t.sources (path_of child))) stat ≡ false → (stat ≡ there) × (stamp ≡ stamp_of stat.mtime boundary)
-  noted_so stamp noted told left keeps other stat clean unvouched =
+  noted_so store stamp noted told left keeps other stat clean unvouched =
       let same : stat ≡ there = some_is stat there (sym clean.1 ∙ shown told) in (
         same,
-        noted (record { goes = come.goes; told = told; shown = shown told }) (stays_shown old new (path_of child) left) keeps
+        noted store (record { goes = come.goes; told = told; shown = shown told }) (stays_shown old new (path_of child) left) keeps
             (subst (λ (e : EntryData). vouches e (copied_in child) there ≡ false) (same_entry call t child entry come.of is other clean.0)
             (subst (λ (b : Bool). vouches other b there ≡ false) (sym (child_copied t child come.of)) (subst (λ (st : Stat). vouches other (is_some (t.sources (path_of child))) st ≡ false) same unvouched)))
-            (clean_here call t child entry come.of is other stat clean).2
+            (clean_here call t child entry come.of is store other stat clean).2
             ∙ ap (λ (st : Stat). stamp_of st.mtime boundary) (sym same),
       )
 
   pub notes_found : (stamp : Option Stamp) → IfSome (option_map stamp_view stamp) (λ st. IsEarnedBy look here parent boundary st) → IfSome (option_map stamp_view stamp) (IsNoted look boundary letter)
       → IsNotedIfClean look here parent boundary (option_map stamp_view stamp)
-      → AreNotesOf call t boundary (child ∷ []) (notes_of (path_of child) (option_map (λ st. record { stat = there; stamp = st }) stamp))
+      → AreNotesOf call t boundary (child ∷ []) (notes_of (path_of child) (option_map (λ st. (there, st)) stamp))
   notes_found None earned noted if_clean = record {
     needed = λ note has. absurd (nothing note has);
     stamp = λ note has. absurd (nothing note has);
     shown = λ told note has. absurd (nothing note has);
-    earned = λ honest told clock keeps note has. absurd (nothing note has);
-    recorded = λ told wants other entry stat stamp has.
+    earned = λ store honest told clock keeps note has. absurd (nothing note has);
+    recorded = λ store told wants other entry stat stamp has.
         subst
-        (λ (o : Line). Untouched new old.last (path_of o) → KeepsRow later begun.last here.id (path_of o) → t.entries (path_of o) ≡ Some entry → stat_at (trees.now old) (path_of o) ≡ Some stat
-        → tracked_letter (rows_then call (path_of o)) (marks_of entry) (is_some (t.sources (path_of o))) ((trees.now old).things (path_of o)) ≡ Some a_letter.C
+        (λ (o : Line). Untouched new old.last (path_of o) → KeepsRow store later begun.last here.id (path_of o) → t.entries (path_of o) ≡ Some entry → stat_at (trees.now old) (path_of o) ≡ Some stat
+        → tracked_letter (rows_by store call (path_of o)) (marks_of entry) (is_some (t.sources (path_of o))) ((trees.now old).things (path_of o)) ≡ Some a_letter.C
         → vouches entry (is_some (t.sources (path_of o))) stat ≡ false → stamp_of stat.mtime boundary ≡ Some stamp → clean_at [] (path_of o) ≡ Some (record { path = path_of o; stat = stat; stamp = stamp }))
         (only_one child other has)
-        (λ alone keeps has seen clean unvouched stamped. let so = noted_so None if_clean told alone keeps entry stat (has, seen, clean) unvouched in let none = so.1 in absurd (cc (none, stamped)));
+        (λ alone keeps has seen clean unvouched stamped. let so = noted_so store None if_clean told alone keeps entry stat (has, seen, clean) unvouched in let none = so.1 in absurd (cc (none, stamped)));
   }
   notes_found (Some st) earned noted if_clean = record {
     needed = λ note has. subst (IsNeededNote t) (only_one (own_note st) note has) (needed_own st noted.unvouched);
@@ -240,17 +240,17 @@ module _ (wanted : Wanted) (t : Table) (start old new : trees.History) (begun fi
     shown = λ told note has.
         subst (λ (n : CleanNote). WasShown old new n.path n.stat) (only_one (own_note st) note has)
         (record { at = old.last; from = omega arith; to = passes.past.later; shows = ap (λ (m : Moment). stat_at m (path_of child)) (passes.past.stay old.last (omega arith)) ∙ shown told });
-    earned = λ honest told clock keeps note has.
-        subst (IsCleanNote (rows_then call) t new) (only_one (own_note st) note has)
-        (λ e has. earned e (record { goes = come.goes; told = told; shown = shown told }) honest (keeps (path_of child)) clock);
-    recorded = λ told wants other entry stat stamp has.
+    earned = λ store honest told clock keeps note has.
+        subst (IsCleanNote (rows_by store call) t new) (only_one (own_note st) note has)
+        (λ e has. earned store e (record { goes = come.goes; told = told; shown = shown told }) honest (keeps (path_of child)) clock);
+    recorded = λ store told wants other entry stat stamp has.
         subst
-        (λ (o : Line). Untouched new old.last (path_of o) → KeepsRow later begun.last here.id (path_of o) → t.entries (path_of o) ≡ Some entry → stat_at (trees.now old) (path_of o) ≡ Some stat
-        → tracked_letter (rows_then call (path_of o)) (marks_of entry) (is_some (t.sources (path_of o))) ((trees.now old).things (path_of o)) ≡ Some a_letter.C
+        (λ (o : Line). Untouched new old.last (path_of o) → KeepsRow store later begun.last here.id (path_of o) → t.entries (path_of o) ≡ Some entry → stat_at (trees.now old) (path_of o) ≡ Some stat
+        → tracked_letter (rows_by store call (path_of o)) (marks_of entry) (is_some (t.sources (path_of o))) ((trees.now old).things (path_of o)) ≡ Some a_letter.C
         → vouches entry (is_some (t.sources (path_of o))) stat ≡ false → stamp_of stat.mtime boundary ≡ Some stamp → clean_at (own_note st ∷ []) (path_of o) ≡ Some (record { path = path_of o; stat = stat; stamp = stamp }))
         (only_one child other has)
         (λ alone keeps has seen clean unvouched stamped.
-        let so = noted_so (Some (stamp_view st)) if_clean told alone keeps entry stat (has, seen, clean) unvouched in
+        let so = noted_so store (Some (stamp_view st)) if_clean told alone keeps entry stat (has, seen, clean) unvouched in
         let stamps : stamp_view st ≡ stamp = some_is (stamp_view st) stamp (so.1 ∙ stamped) in
         ap (λ (b : Bool). cond b (Some (own_note st)) None) ((bytes_eq-Decides (path_of child) (path_of child)).1 refl)
         ∙ (λ i. Some (record { path = path_of child; stat = sym so.0 i; stamp = stamps i })));
@@ -281,28 +281,28 @@ module _ (wanted : Wanted) (t : Table) (old mid new : trees.History) (begun file
           | inl here ↦ shown_more note (one.shown told note here)
           | inr there ↦ shown_later note (two.shown (before.past.told ∙ told) note there)
         ];
-    earned = λ honest told clock keeps note has.
+    earned = λ store honest told clock keeps note has.
         elim (Contains-append_cases first second note has) [
           | inl here ↦ λ entry is.
-              earned_on (rows_then (walk_status wanted t old new begun later)) mid new behind.past note.path (seen_clean entry note.stat note.stamp) note.stamp
-              (one.earned (past_honest mid new behind.past honest) told clock (λ path. row_earlier files later begun.last (walk_status wanted t old new begun later).id path past within (keeps path)) note here entry is)
+              earned_on (rows_by store (walk_status wanted t old new begun later)) mid new behind.past note.path (seen_clean entry note.stat note.stamp) note.stamp
+              (one.earned store (past_honest mid new behind.past honest) told clock (λ path. row_earlier store files later begun.last (walk_status wanted t old new begun later).id path past (keeps path)) note here entry is)
           | inr there ↦
-              two.earned honest (before.past.told ∙ told)
+              two.earned store honest (before.past.told ∙ told)
               (record { at = clock.at; within = omega (arith, clock.within, before.past.later); is = clock.is ∙ ap (λ (m : Moment). m.clock) (sym (before.past.stay clock.at clock.within)) }) keeps note there
         ];
-    recorded = λ told wants child entry stat stamp has left keeps is shown clean unvouched stamped.
+    recorded = λ store told wants child entry stat stamp has left keeps is shown clean unvouched stamped.
         let alike = alike_between old mid new (path_of child) before.past behind.past left in
         find-append (λ (note : CleanNote). bytes_eq note.path (path_of child)) first second
         ∙ elim (Contains-append_cases xs ys child has) [
           | inl here ↦
               ap (λ (o : Option CleanNote). option_or o (clean_at second (path_of child)))
-              (one.recorded told wants child entry stat stamp here (untouched_first mid new old.last (path_of child) behind.past before.past.later left)
-              (row_earlier files later begun.last (walk_status wanted t old new begun later).id (path_of child) past within keeps) is shown clean unvouched stamped)
+              (one.recorded store told wants child entry stat stamp here (untouched_first mid new old.last (path_of child) behind.past before.past.later left)
+              (row_earlier store files later begun.last (walk_status wanted t old new begun later).id (path_of child) past keeps) is shown clean unvouched stamped)
           | inr there ↦
               by (path_of child) stat stamp told left shown stamped (clean_at first (path_of child)) refl
-              (two.recorded (before.past.told ∙ told) wants child entry stat stamp there (untouched_second new old.last mid.last (path_of child) before.past.later behind.past.later left) keeps is
+              (two.recorded store (before.past.told ∙ told) wants child entry stat stamp there (untouched_second new old.last mid.last (path_of child) before.past.later behind.past.later left) keeps is
               (stat_alike (trees.now mid) (trees.now old) (path_of child) alike ∙ shown)
-              (letter_moved (trees.now mid) (trees.now old) (path_of child) (rows_then (walk_status wanted t old new begun later) (path_of child)) (marks_of entry) (is_some (t.sources (path_of child))) alike ∙ clean)
+              (letter_moved (trees.now mid) (trees.now old) (path_of child) (rows_by store (walk_status wanted t old new begun later) (path_of child)) (marks_of entry) (is_some (t.sources (path_of child))) alike ∙ clean)
               unvouched stamped)
         ];
   }
@@ -327,8 +327,8 @@ notes_empty s t boundary = record {
   needed = λ note has. absurd (nothing note has);
   stamp = λ note has. absurd (nothing note has);
   shown = λ told note has. absurd (nothing note has);
-  earned = λ honest told clock keeps note has. absurd (nothing note has);
-  recorded = λ told wants child entry stat stamp has. absurd (nothing child has);
+  earned = λ store honest told clock keeps note has. absurd (nothing note has);
+  recorded = λ store told wants child entry stat stamp has. absurd (nothing child has);
 }
 
 -- what is noted behind a look is noted in the call

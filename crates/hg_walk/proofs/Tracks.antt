@@ -32,7 +32,7 @@ use Rattle.hg_mtime.specs.Stamps.{stamp_of}
 use Rattle.hg_mtime.specs.Vouching.{vouches}
 use Rattle.hg_mtime.proofs.Tests.{noted_vouch}
 use Rattle.hg_shelf.specs.History as shelves
-use Rattle.hg_shelf.specs.Polite.{KeepsPlain}
+use Rattle.hg_shelf.specs.Polite.{StaysPlain}
 use Rattle.hg_tree.specs.History as trees
 use Rattle.hg_tree.specs.Honest.{IsHonest}
 use Rattle.hg_tree.specs.Moment.{Moment, stat_at, stat_of}
@@ -42,7 +42,7 @@ use Rattle.hg_tree.specs.declared.thing.Thing.TheVariants as a_thing
 use Rattle.hg_tree.specs.Still.{Untouched}
 use Rattle.hg_tree.proofs.Stillness.{alike_at}
 use Rattle.hg_walk.specs.Applying.{IsBlank}
-use Rattle.hg_walk.specs.Finding.{rows_then}
+use Rattle.hg_walk.specs.Finding.{rows_by}
 use Rattle.hg_walk.specs.Notes.{AreEarned, CleanNote, NotesData, applied, clean_at, with_clean}
 use Rattle.hg_walk.specs.Marks.{is_no_dir, stands}
 use Rattle.hg_walk.specs.Passing.{known_of}
@@ -129,12 +129,12 @@ module _ (wanted : Wanted) (held : Held) (children : List Line) (are : AreGather
         node.2.above (sym passes.past.told ∙ told) both.1 path both.0;
   }
 
-  pub tells_whole : (marks : List Mark) (rows : List Row) → ((t : Table) → AreOf t id children → TellsEach (AreRight (rows_in t (shelves.now start).files) t old later) (walk_status wanted t old later start files) children [] rows)
+  pub tells_whole : (marks : List Mark) (rows : List Row) → ((t : Table) (store : shelves.Files) → AreOf t id children → TellsEach store (AreRight (rows_in t store) t old later) (walk_status wanted t old later start files) children [] rows)
       → MarksEach wanted old later children [] marks → TellsAll whole t children marks rows
   tells_whole marks rows added marked = record {
     own = own_rows children are.own;
     flat = rows_flat held children are formed t.p1 t.p2 refl refl;
-    added = added t of_record;
+    added = λ store. added t store of_record;
     known = known_whole marks (subst (AreMarked (IsMarked wanted old later) children) (sym marked.1) marked.2);
   }
 
@@ -142,12 +142,12 @@ module _ (wanted : Wanted) (held : Held) (children : List Line) (are : AreGather
     abbrev made : NotesData
     made = record { clean = notes; seen = []; gone = []; hash = None }
 
-    keeps : KeepsPlain files start.last → KeepsRows whole
-    keeps plain path = keeps_row files start.last (first_id t) plain path
+    keeps : (store : shelves.Files) → StaysPlain store files start.last → KeepsRows store whole
+    keeps store plain path = keeps_row store files start.last (first_id t) plain path
 
-    earned : IsHonest later → IsTrue old.told → WasClockOf old boundary made → KeepsPlain files start.last → AreEarned (rows_then whole) t later made
-    earned honest told clock plain = record {
-      clean = λ note has. n.earned honest told (clock note has) (keeps plain) note has;
+    earned : (store : shelves.Files) → IsHonest later → IsTrue old.told → WasClockOf old boundary made → StaysPlain store files start.last → AreEarned (rows_by store whole) t later made
+    earned store honest told clock plain = record {
+      clean = λ note has. n.earned store honest told (clock note has) (keeps store plain) note has;
       seen = λ note has. let (k, below, same) = has in absurd (omega (arith, below));
       renewed = λ some. absurd (true≢false (sym some));
     }
@@ -156,23 +156,23 @@ module _ (wanted : Wanted) (held : Held) (children : List Line) (are : AreGather
     needed = record { clean = n.needed; seen = refl; gone = refl; hash = refl }
 
     -- a path that is clean, and for which its entry doesn't vouch, is compared
-    compared : wants_bytes wanted ≡ true → (m : Moment) (path : List ℕ) (entry : EntryData) (stat : Stat) → t.entries path ≡ Some entry → stat_at m path ≡ Some stat
-        → tracked_letter (rows_then whole path) (marks_of entry) (is_some (t.sources path)) (m.things path) ≡ Some a_letter.C → vouches entry (is_some (t.sources path)) stat ≡ false
+    compared : (store : shelves.Files) → wants_bytes wanted ≡ true → (m : Moment) (path : List ℕ) (entry : EntryData) (stat : Stat) → t.entries path ≡ Some entry → stat_at m path ≡ Some stat
+        → tracked_letter (rows_by store whole path) (marks_of entry) (is_some (t.sources path)) (m.things path) ≡ Some a_letter.C → vouches entry (is_some (t.sources path)) stat ≡ false
         → IsAsked (asked_unvouched wanted t) m path
-    compared wants m path entry stat has shown clean unvouched =
-        let marks = clean_marks (rows_then whole path) entry (is_some (t.sources path)) (m.things path) clean in
+    compared store wants m path entry stat has shown clean unvouched =
+        let marks = clean_marks (rows_by store whole path) entry (is_some (t.sources path)) (m.things path) clean in
         (λ i.
         ((wants i && is_plain_entry (option_map marks_of (has i)) (is_some (t.sources path))) && marks.1 i) && not (vouches_for (has i) (is_some (t.sources path)) (shown i)))
         ∙ (λ i. ((true && marks.0 i) && true) && not (unvouched i))
 
     -- the entry behind the notes vouches for what the look showed
-    vouched : IsTrue old.told → wants_bytes wanted ≡ true → (path : List ℕ) (entry : EntryData) (stat : Stat)
-        → IsLeftAsked (asked_unvouched wanted t) (first_id t) later old.last files start.last path → t.entries path ≡ Some entry
-        → stat_at (trees.now old) path ≡ Some stat → tracked_letter (rows_then whole path) (marks_of entry) (is_some (t.sources path)) ((trees.now old).things path) ≡ Some a_letter.C
+    vouched : (store : shelves.Files) → IsTrue old.told → wants_bytes wanted ≡ true → (path : List ℕ) (entry : EntryData) (stat : Stat)
+        → IsLeftAsked store (asked_unvouched wanted t) (first_id t) later old.last files start.last path → t.entries path ≡ Some entry
+        → stat_at (trees.now old) path ≡ Some stat → tracked_letter (rows_by store whole path) (marks_of entry) (is_some (t.sources path)) ((trees.now old).things path) ≡ Some a_letter.C
         → (stamp : StampData) → stamp_of stat.mtime boundary ≡ Some stamp → (o : Option CleanNote) → clean_at notes path ≡ o → (b : Bool) → vouches entry (is_some (t.sources path)) stat ≡ b
         → vouches_for (with_clean o (Some entry)) (is_some (t.sources path)) (Some stat) ≡ true
-    vouched told wants path entry stat left has shown clean stamp stamped None none true vouch = vouch
-    vouched told wants path entry stat left has shown clean stamp stamped (Some note) some true vouch =
+    vouched store told wants path entry stat left has shown clean stamp stamped None none true vouch = vouch
+    vouched store told wants path entry stat left has shown clean stamp stamped (Some note) some true vouch =
         let found = note_found notes path note some in
         let need = n.needed note found.0 in
         let was = n.shown told note found.0 in
@@ -183,17 +183,17 @@ module _ (wanted : Wanted) (held : Held) (children : List Line) (are : AreGather
         let stat_is : note.stat ≡ stat = cc one in
         let entry_is : need.entry ≡ entry = cc entries in
         absurd (true≢false (sym vouch ∙ (λ i. vouches (sym entry_is i) (is_some (t.sources (sym found.1 i))) (sym stat_is i)) ∙ need.unvouched))
-    vouched told wants path entry stat left has shown clean stamp stamped o is_o false unvouched =
+    vouched store told wants path entry stat left has shown clean stamp stamped o is_o false unvouched =
         let node = node_of held children are formed path entry has in
         let child = node.0 in
         let at : path_of child ≡ path = node.3 in
-        let asked = compared wants (trees.now old) path entry stat has shown clean unvouched in
+        let asked = compared store wants (trees.now old) path entry stat has shown clean unvouched in
         let keeps = left.row (subst (λ (m : Moment). IsAsked (asked_unvouched wanted t) m path) (sym (passes.past.stay old.last (omega arith))) asked) in
-        let found = n.recorded told wants child entry stat stamp node.2 (subst (Untouched later old.last) (sym at) left.own) (subst (KeepsRow files start.last (first_id t)) (sym at) keeps) (ap t.entries at ∙ has) (ap (stat_at (trees.now old)) at ∙ shown)
-        ((λ i. tracked_letter (rows_then whole (at i)) (marks_of entry) (is_some (t.sources (at i))) ((trees.now old).things (at i))) ∙ clean)
+        let found = n.recorded store told wants child entry stat stamp node.2 (subst (Untouched later old.last) (sym at) left.own) (subst (KeepsRow store files start.last (first_id t)) (sym at) keeps) (ap t.entries at ∙ has) (ap (stat_at (trees.now old)) at ∙ shown)
+        ((λ i. tracked_letter (rows_by store whole (at i)) (marks_of entry) (is_some (t.sources (at i))) ((trees.now old).things (at i))) ∙ clean)
         (ap (λ (p : List ℕ). vouches entry (is_some (t.sources p)) stat) at ∙ unvouched) stamped in
         let this : o ≡ Some (record { path = path_of child; stat = stat; stamp = stamp }) = sym is_o ∙ ap (clean_at notes) (sym at) ∙ found in
-        let marks = clean_marks (rows_then whole path) entry (is_some (t.sources path)) ((trees.now old).things path) clean in
+        let marks = clean_marks (rows_by store whole path) entry (is_some (t.sources path)) ((trees.now old).things path) clean in
         ap (λ (q : Option CleanNote). vouches_for (with_clean q (Some entry)) (is_some (t.sources path)) (Some stat)) this
         ∙ noted_vouch entry (is_some (t.sources path)) stat boundary stamp marks.0 (file_placed ((trees.now old).things path) stat shown marks.1) stamped
 
@@ -201,12 +201,12 @@ module _ (wanted : Wanted) (held : Held) (children : List Line) (are : AreGather
     some_stamp None none = absurd (true≢false (sym none))
     some_stamp (Some stamp) some = (stamp, refl)
 
-    recorded : IsTrue old.told → wants_bytes wanted ≡ true
-        → VouchesFor (IsLeftAsked (asked_unvouched wanted t) (first_id t) later old.last files start.last) (rows_then whole) t (trees.now old) boundary (applied made t)
-    recorded told wants path entry stat left has shown clean some =
+    recorded : (store : shelves.Files) → IsTrue old.told → wants_bytes wanted ≡ true
+        → VouchesFor (IsLeftAsked store (asked_unvouched wanted t) (first_id t) later old.last files start.last) (rows_by store whole) t (trees.now old) boundary (applied made t)
+    recorded store told wants path entry stat left has shown clean some =
         let stamp = some_stamp (stamp_of stat.mtime boundary) some in
         (λ i. vouches_for (with_clean (clean_at notes path) (has i)) (is_some (t.sources path)) (shown i))
-        ∙ vouched told wants path entry stat left has shown clean stamp.0 stamp.1 (clean_at notes path) refl (vouches entry (is_some (t.sources path)) stat) refl
+        ∙ vouched store told wants path entry stat left has shown clean stamp.0 stamp.1 (clean_at notes path) refl (vouches entry (is_some (t.sources path)) stat) refl
 
     notes_whole : NotesAll whole t boundary made
     notes_whole = record { needed = needed; stamp = n.stamp; shown = n.shown; earned = earned; recorded = recorded }

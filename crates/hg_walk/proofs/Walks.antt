@@ -25,7 +25,7 @@ use Rattle.hg_listing.specs.declared.row.Wanted.{Wanted}
 use Rattle.hg_mixed.specs.declared.line.Line.{Line}
 use Rattle.hg_mtime.specs.Stamps.{stamp_of}
 use Rattle.hg_shelf.specs.History as shelves
-use Rattle.hg_shelf.specs.Polite.{KeepsPlain}
+use Rattle.hg_shelf.specs.Polite.{StaysPlain}
 use Rattle.hg_shelf.proofs.Histories as shelf
 use Rattle.hg_tree.specs.History as trees
 use Rattle.hg_tree.specs.Honest.{IsHonest}
@@ -63,30 +63,30 @@ module _ (wanted : Wanted) (t : Table) (children : List Line) (marks : List Mark
 
   module _ (told : TellsAll (walk_status wanted t mid later start files) t children marks rows) (ignore : Option (List Piece)) (kept : IsKeptState wanted old mid ignore) (d : List Row)
       (others : ListsOthers (has_entry children) (known_of children marks) wanted (pieces_of ignore) later new rows d) where
-    pub still : AreRight (rows_in t (shelves.now start).files) t old new
-        → IsFullFor (IsLeftBy wanted t new old.last files start.last) (flat_of t) (trees.now old) (rows_in t (shelves.now start).files) (ignored_at (trees.now old)) wanted d
-    still right =
+    pub still : (store : shelves.Files) → AreRight (rows_in t store) t old new
+        → IsFullFor (IsLeftBy store wanted t new old.last files start.last) (flat_of t) (trees.now old) (rows_in t store) (ignored_at (trees.now old)) wanted d
+    still store right =
         subst
-        (λ (f : Flat). IsFullFor (IsLeft wanted f (asked_unvouched wanted t) (first_id t) new old.last files start.last) f (trees.now old) (rows_in t (shelves.now start).files) (ignored_at (trees.now old)) wanted d)
+        (λ (f : Flat). IsFullFor (IsLeft store wanted f (asked_unvouched wanted t) (first_id t) new old.last files start.last) f (trees.now old) (rows_in t store) (ignored_at (trees.now old)) wanted d)
         told.flat
-        (whole_listing (asked_unvouched wanted t) (unvouched_alike wanted t) (AreRight (rows_in t (shelves.now start).files) t mid later) t.p1 t.p2 (tracked_rows children) told.own wanted (first_id t) old mid later new first second third files start.last
-        (shelves.now start).files rows d told.added ignore kept (known_of children marks) told.known others
-        (right_in_second (rows_in t (shelves.now start).files) t old mid later first.past (right_in_first (rows_in t (shelves.now start).files) t old later new third.past right)))
+        (whole_listing (asked_unvouched wanted t) (unvouched_alike wanted t) (AreRight (rows_in t store) t mid later) t.p1 t.p2 (tracked_rows children) told.own wanted (first_id t) old mid later new first second third files start.last
+        store rows d (told.added store) ignore kept (known_of children marks) told.known others
+        (right_in_second (rows_in t store) t old mid later first.past (right_in_first (rows_in t store) t old later new third.past right)))
 
     -- all that a comparison asked for was there, whatever the times
-    pub served : (path : List ℕ) → IsLeftBy wanted t new old.last files start.last path → IsAsked (asked_unvouched wanted t) (trees.now old) path
-        → IsServed (shelves.now start).files (first_id t) (trees.now old) path
-    served path left asked =
-        whole_served (asked_unvouched wanted t) (unvouched_alike wanted t) (AreRight (rows_in t (shelves.now start).files) t mid later) t.p1 t.p2 (tracked_rows children) told.own wanted (first_id t) old mid later new first second third files start.last
-        (shelves.now start).files rows d told.added ignore kept (known_of children marks) told.known others
+    pub served : (store : shelves.Files) (path : List ℕ) → IsLeftBy store wanted t new old.last files start.last path → IsAsked (asked_unvouched wanted t) (trees.now old) path
+        → IsServed store (first_id t) (trees.now old) path
+    served store path left asked =
+        whole_served (asked_unvouched wanted t) (unvouched_alike wanted t) (AreRight (rows_in t store) t mid later) t.p1 t.p2 (tracked_rows children) told.own wanted (first_id t) old mid later new first second third files start.last
+        store rows d (told.added store) ignore kept (known_of children marks) told.known others
         (subst (Narrows (asked_unvouched wanted t) wanted) (sym told.flat) (unvouched_narrows wanted t)) path
-        (subst (λ (f : Flat). IsLeft wanted f (asked_unvouched wanted t) (first_id t) new old.last files start.last path) (sym told.flat) left) asked
+        (subst (λ (f : Flat). IsLeft store wanted f (asked_unvouched wanted t) (first_id t) new old.last files start.last path) (sym told.flat) left) asked
 
-    pub full : AreRight (rows_in t (shelves.now start).files) t old new → trees.IsOurs old new → KeepsPlain files start.last
-        → IsFull (flat_of t) (trees.now old) (rows_in t (shelves.now start).files) (ignored_at (trees.now old)) wanted d
-    full right ours keeps =
-        full_of (IsLeftBy wanted t new old.last files start.last) (flat_of t) (trees.now old) (rows_in t (shelves.now start).files) (ignored_at (trees.now old)) wanted d
-        (left_all (flat_of t) wanted (asked_unvouched wanted t) (first_id t) old new whole ours files start.last keeps) (still right)
+    pub full : (store : shelves.Files) → AreRight (rows_in t store) t old new → trees.IsOurs old new → StaysPlain store files start.last
+        → IsFull (flat_of t) (trees.now old) (rows_in t store) (ignored_at (trees.now old)) wanted d
+    full store right ours keeps =
+        full_of (IsLeftBy store wanted t new old.last files start.last) (flat_of t) (trees.now old) (rows_in t store) (ignored_at (trees.now old)) wanted d
+        (left_all store (flat_of t) wanted (asked_unvouched wanted t) (first_id t) old new whole ours files start.last keeps) (still store right)
 
   -- ---- what is noted
 
@@ -129,31 +129,31 @@ module _ (wanted : Wanted) (t : Table) (children : List Line) (marks : List Mark
       order = λ told note has. let was = all.shown (first.past.told ∙ told) note has in omega (arith, was.from, behind.past.later);
     }
 
-    pub earned : IsHonest new → IsTrue old.told → KeepsPlain files start.last → AreEarned (rows_in t (shelves.now start).files) t new notes
-    earned honest told keeps =
-        let e = all.earned (past_honest later new third.past honest) (first.past.told ∙ told)
+    pub earned : (store : shelves.Files) → IsHonest new → IsTrue old.told → StaysPlain store files start.last → AreEarned (rows_in t store) t new notes
+    earned store honest told keeps =
+        let e = all.earned store (past_honest later new third.past honest) (first.past.told ∙ told)
         (λ note has. record { at = at.last; within = behind.past.later; is = clock_at note has told ∙ ap (λ (m : Moment). m.clock) (sym (behind.past.stay at.last (omega arith))) }) keeps in record {
-          clean = λ note has entry is. earned_on (rows_in t (shelves.now start).files) later new third.past note.path _ note.stamp (e.clean note has entry is);
+          clean = λ note has entry is. earned_on (rows_in t store) later new third.past note.path _ note.stamp (e.clean note has entry is);
           seen = λ note has. dir_on later new third.past note.dir note.cache _ t.nodes (e.seen note has);
           renewed = e.renewed;
         }
 
     -- what is left alone over the walk is so over the look at all paths
-    left_then : (path : List ℕ) → IsLeftBy wanted t new old.last files start.last path → IsLeftAsked (asked_unvouched wanted t) (first_id t) later mid.last files start.last path
-    left_then path left =
-        left_begun (asked_unvouched wanted t) (first_id t) mid later new second.past third.past files files start.last (shelf.extends_same files) past path
-        (left_ended (asked_unvouched wanted t) (unvouched_alike wanted t) (first_id t) old mid new first.past (passes_trans mid later new second third).past files start.last path (record { own = left.own; row = left.row }))
+    left_then : (store : shelves.Files) (path : List ℕ) → IsLeftBy store wanted t new old.last files start.last path → IsLeftAsked store (asked_unvouched wanted t) (first_id t) later mid.last files start.last path
+    left_then store path left =
+        left_begun store (asked_unvouched wanted t) (first_id t) mid later new second.past third.past files files start.last (shelf.extends_same files) path
+        (left_ended store (asked_unvouched wanted t) (unvouched_alike wanted t) (first_id t) old mid new first.past (passes_trans mid later new second third).past files start.last path (record { own = left.own; row = left.row }))
 
-    vouched : IsTrue old.told → wants_bytes wanted ≡ true
-        → VouchesFor (IsLeftBy wanted t new old.last files start.last) (rows_in t (shelves.now start).files) t (trees.now old) boundary (applied notes t)
-    vouched told wants path entry stat left has shown clean some =
+    vouched : (store : shelves.Files) → IsTrue old.told → wants_bytes wanted ≡ true
+        → VouchesFor (IsLeftBy store wanted t new old.last files start.last) (rows_in t store) t (trees.now old) boundary (applied notes t)
+    vouched store told wants path entry stat left has shown clean some =
         let alike = alike_between old mid new path first.past (passes_trans mid later new second third).past left.own in
         let stats = stat_alike (trees.now mid) (trees.now old) path alike in
         ap (vouches_for ((applied notes t).entries path) (is_some (t.sources path))) (sym stats)
-        ∙ all.recorded (first.past.told ∙ told) wants path entry stat (left_then path left) has (stats ∙ shown)
-        (letter_moved (trees.now mid) (trees.now old) path (rows_in t (shelves.now start).files path) (marks_of entry) (is_some (t.sources path)) alike ∙ clean) some
+        ∙ all.recorded store (first.past.told ∙ told) wants path entry stat (left_then store path left) has (stats ∙ shown)
+        (letter_moved (trees.now mid) (trees.now old) path (rows_in t store path) (marks_of entry) (is_some (t.sources path)) alike ∙ clean) some
 
-    pub noted_by : wants_bytes wanted ≡ true → AreNotedBy wanted (rows_in t (shelves.now start).files) t old new files start.last notes
+    pub noted_by : wants_bytes wanted ≡ true → AreNotedBy wanted t old new files start.last notes
     noted_by wants = record {
       boundary = boundary;
       at = at.last;
@@ -168,14 +168,14 @@ module _ (wanted : Wanted) (t : Table) (children : List Line) (marks : List Mark
             to = omega (arith, was.to, third.past.later);
             so = ap (λ (m : Moment). stat_at m note.path) (third.past.stay was.at was.to) ∙ was.shows;
           };
-      vouched = λ told. vouched told wants;
+      vouched = λ store told. vouched store told wants;
     }
 
-    pub recorded : trees.IsOurs old new → KeepsPlain files start.last → IsRecorded wanted (rows_in t (shelves.now start).files) t (trees.now old) (applied notes t)
-    recorded ours keeps wants path entry stat has shown clean some =
+    pub recorded : (store : shelves.Files) → trees.IsOurs old new → StaysPlain store files start.last → IsRecorded wanted (rows_in t store) t (trees.now old) (applied notes t)
+    recorded store ours keeps wants path entry stat has shown clean some =
         let until = ours_first old later new third.past ours in
         let own : trees.IsOurs old mid = ours_first old mid later second.past until in
         let clock : boundary ≡ (trees.now old).clock =
         clock_true (wants_bytes wanted) wants is (before.past.told ∙ ours.told) ∙ ap (λ (m : Moment). m.clock) (now_same old at before (ours_first old at mid behind.past own)) in
-        vouched ours.told wants path entry stat (left_all (flat_of t) wanted (asked_unvouched wanted t) (first_id t) old new whole ours files start.last keeps path) has shown clean
+        vouched store ours.told wants path entry stat (left_all store (flat_of t) wanted (asked_unvouched wanted t) (first_id t) old new whole ours files start.last keeps path) has shown clean
         (ap (λ (b : Time). is_some (stamp_of stat.mtime b)) clock ∙ some)

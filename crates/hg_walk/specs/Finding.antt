@@ -46,26 +46,26 @@ pub record IsReached (l : Look) (s : Status) (parent : Parent) : Type 0 where
   pub told : IsTrue l.tree_old.told
   pub shown : stat_at (trees.now l.tree_old) l.path ≡ Some l.before
 
--- nobody touches what the first parent has of the path, from the start of the status on
-abbrev pub KeepsOwn : Look → Status → Type 0
-KeepsOwn l s = KeepsRow l.shelf_new s.shelf_old.last s.id l.path
+-- what the first parent has of the path is a store's, wherever it is there, from the start of the status on
+abbrev pub KeepsOwn : shelves.Files → Look → Status → Type 0
+KeepsOwn store l s = KeepsRow store l.shelf_new s.shelf_old.last s.id l.path
 
--- what the first parent has of each path at the start of a status
-abbrev pub rows_then : Status → List ℕ → Option ParentRow
-rows_then s = parent_rows (shelves.now s.shelf_old).files s.id
+-- what the first parent has of each path by a store
+abbrev pub rows_by : shelves.Files → Status → List ℕ → Option ParentRow
+rows_by store s = parent_rows store s.id
 
 -- the record tells of the path what is known of it
 pub record IsRecordOf (table : Table) (l : Look) : Type 0 where
   pub entry : table.entries l.path ≡ Some l.entry
   pub copied : l.copied ≡ is_some (table.sources l.path)
 
--- a letter is that of the path by what the first parent has of it, where nobody touches the path, and the record's times are right over the call where
--- the entry vouches, and nobody touches what the parent has of the path where it doesn't
+-- a letter is that of the path by what the first parent has of it in a store, where nobody touches the path, and the record's times are right over the call
+-- where the entry vouches, and what the parent has of the path is the store's where it doesn't
 abbrev pub HasLetter : Look → Status → Parent → Letter → Type 0
 HasLetter l s parent letter =
-    (table : Table) → IsReached l s parent → (is_vouched l ≡ true → AreRight (rows_then s) table s.tree_old l.tree_new) → IsRecordOf table l
-    → StaysShown l.tree_old l.tree_new l.path → (is_vouched l ≡ false → KeepsOwn l s)
-    → IsFound (shelves.now s.shelf_old).files s.id (trees.now l.tree_old) l.path letter
+    (store : shelves.Files) (table : Table) → IsReached l s parent → (is_vouched l ≡ true → AreRight (rows_by store s) table s.tree_old l.tree_new) → IsRecordOf table l
+    → StaysShown l.tree_old l.tree_new l.path → (is_vouched l ≡ false → KeepsOwn store l s)
+    → IsFound store s.id (trees.now l.tree_old) l.path letter
 
 -- a time was the clock's at a moment so far
 pub record WasClock (h : trees.History) (time : Time) : Type 0 where
@@ -76,8 +76,8 @@ pub record WasClock (h : trees.History) (time : Time) : Type 0 where
 -- a time that is noted is earned, whatever others do to the path, where times are honest and the boundary was the clock's before the look
 abbrev pub IsEarnedBy : Look → Status → Parent → Time → StampData → Type 0
 IsEarnedBy l s parent boundary stamp =
-    (entry : EntryData) → IsReached l s parent → IsHonest l.tree_new → KeepsOwn l s → WasClock l.tree_old boundary
-    → IsEarned (rows_then s) l.tree_new l.path (seen_clean entry l.before stamp) stamp
+    (store : shelves.Files) (entry : EntryData) → IsReached l s parent → IsHonest l.tree_new → KeepsOwn store l s → WasClock l.tree_old boundary
+    → IsEarned (rows_by store s) l.tree_new l.path (seen_clean entry l.before stamp) stamp
 
 -- a time is noted of a clean path alone for which its entry doesn't vouch, and it is that of the look behind the boundary
 pub record IsNoted (l : Look) (boundary : Time) (letter : Letter) (stamp : StampData) : Type 0 where
@@ -85,11 +85,11 @@ pub record IsNoted (l : Look) (boundary : Time) (letter : Letter) (stamp : Stamp
   pub unvouched : is_vouched l ≡ false
   pub is : stamp_of l.before.mtime boundary ≡ Some stamp
 
--- where what stands there is what the first parent has, and nobody touches either, the time is noted that may be
+-- where what stands there is what the first parent has in a store that it keeps to, and nobody touches the path, the time is noted that may be
 abbrev pub IsNotedIfClean : Look → Status → Parent → Time → Option StampData → Type 0
 IsNotedIfClean l s parent boundary stamp =
-    IsReached l s parent → StaysShown l.tree_old l.tree_new l.path → KeepsOwn l s → is_vouched l ≡ false
-    → is_unchanged (rows_then s l.path) ((trees.now l.tree_old).things l.path) ≡ true → stamp ≡ stamp_of l.before.mtime boundary
+    (store : shelves.Files) → IsReached l s parent → StaysShown l.tree_old l.tree_new l.path → KeepsOwn store l s → is_vouched l ≡ false
+    → is_unchanged (rows_by store s l.path) ((trees.now l.tree_old).things l.path) ≡ true → stamp ≡ stamp_of l.before.mtime boundary
 
 -- the time that is noted behind a comparison: where it was the same, and a look behind it showed the same
 abbrev pub stamp_after : Looked → Time → Time → Option StampData

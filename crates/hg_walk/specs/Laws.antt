@@ -13,11 +13,12 @@ use Rattle.hg_entry.specs.Steps.{seen_clean}
 use Rattle.hg_entry.specs.Table.{Table}
 use Rattle.hg_ignore.specs.Patterns.{Apart}
 use Rattle.hg_ignore.specs.State.{Hash, Ignored, Piece, Texts}
-use Rattle.hg_manifest.specs.Load.{Stays}
 use Rattle.hg_manifest.specs.Rows.{Rows}
 use Rattle.hg_manifest.specs.declared.fault.ManifestFault.{ManifestFault}
 use Rattle.hg_manifest.specs.declared.row.FileRow.{FileRow}
 use Rattle.hg_mtime.specs.Stamps.{stamp_of}
+use Rattle.hg_shelf.specs.History.{Files}
+use Rattle.hg_shelf.specs.Polite.{StaysIn}
 use Rattle.hg_tree.specs.History.{Extends, History}
 use Rattle.hg_tree.specs.Honest.{IsHonest}
 use Rattle.hg_tree.specs.Moment.{Lists, is_among, stat_at}
@@ -61,14 +62,15 @@ RightInSecond =
 
 -- ---- what a walk notes is earned
 
--- a boundary was asked, then a look showed the path, then it was compared with a row of the first parent whose contents stayed, and was the same, with a
+-- a boundary was asked, then a look showed the path, then it was compared with a row of the first parent whose contents were a store's wherever they were
+-- there, and was the same, with a
 -- look behind it that showed the same: the time is earned, whatever others did meanwhile
 abbrev pub NotedIsEarned : Type 0
 NotedIsEarned =
-    (c : Compared) (row : FileRow) (before : Stat) (file : Option (List ℕ)) (boundary : Time) (stamp : StampData) (rows : List ℕ → Option ParentRow) (entry : EntryData) (b i : ℕ)
-    → Extends c.tree_old c.tree_new → IsHonest c.tree_new → IsTrue c.tree_old.told → IsTrue c.shelf_old.told → Stays c.shelf_old c.shelf_new c.name file
+    (c : Compared) (row : FileRow) (before : Stat) (store : Files) (boundary : Time) (stamp : StampData) (rows : List ℕ → Option ParentRow) (entry : EntryData) (b i : ℕ)
+    → Extends c.tree_old c.tree_new → IsHonest c.tree_new → IsTrue c.tree_old.told → IsTrue c.shelf_old.told → StaysIn store c.shelf_new c.shelf_old.last c.name
     → b ≤ i → i ≤ c.tree_old.last → boundary ≡ (c.tree_new.at b).clock → stat_at (c.tree_new.at i) c.path ≡ Some before
-    → Compares c row before (Ok (a_look.Same true)) → stamp_of before.mtime boundary ≡ Some stamp → rows c.path ≡ Some (parent_row row file)
+    → Compares c row before (Ok (a_look.Same true)) → stamp_of before.mtime boundary ≡ Some stamp → rows c.path ≡ Some (parent_row row (store c.name))
     → IsEarned rows c.tree_new c.path (seen_clean entry before stamp) stamp
 
 -- a boundary was asked, then a look showed the directory, then it was listed, and a look behind it showed the same; each name is that of a node or of an

@@ -1,5 +1,5 @@
 -- What a walk notes of times, what a record is with the notes, and when they are earned.
-use Rattle.std.specs.Prelude.{ℕ, ◌≡◌, Bool, true, false, if◌then◌else◌, IsTrue, List, Option, Some, None, is_some, option_map}
+use Rattle.std.specs.Prelude.{ℕ, ◌≡◌, Bool, true, if◌then◌else◌, IsTrue, List, Option, Some, None, is_some, option_map}
 use Rattle.std.specs.List.{Contains, find}
 use Rattle.std.specs.Str.{bytes_eq}
 use Rattle.hg_base.specs.declared.stat.Stat.{Stat}

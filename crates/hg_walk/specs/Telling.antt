@@ -1,9 +1,13 @@
 -- The pass over the paths of a record: the row of each that has an entry, what a look showed there, and what is noted of times.
-use Rattle.std.specs.Prelude.{ℕ, ◌≡◌, ◌≤◌, Bool, true, false, IsTrue, List, [], ◌∷◌, ◌++◌, Option, Some, None, is_some}
+use Rattle.std.specs.Prelude.{ℕ, ◌≡◌, ◌≤◌, Bool, true, false, IsTrue, List, [], ◌∷◌, ◌++◌, take, Option, Some, None, is_some}
 use Rattle.std.specs.Option.{option_map}
 use Rattle.std.specs.List.{Contains}
+use Rattle.std.specs.List.Sorted.{IsStrictlySortedBy}
+use Rattle.std.specs.Ordering.{nat_cmp}
+use Rattle.std.specs.Cmp.Lexicographic.{slice_cmp}
 use Rattle.hg_base.specs.PathText.{is_below}
 use Rattle.hg_base.specs.declared.id.Id20.{Id20}
+use Rattle.hg_base.specs.declared.time.Stamp.{Stamp}
 use Rattle.hg_base.specs.declared.stat.Stat.{Stat}
 use Rattle.hg_base.specs.declared.time.Time.{Time}
 use Rattle.hg_compare.specs.Tracked.{tracked_letter}
@@ -16,13 +20,14 @@ use Rattle.hg_flat.specs.Course.{Proceeds}
 use Rattle.hg_flat.specs.Judged.{AddsBy, IsLeftAsked, IsLetterBy}
 use Rattle.hg_flat.specs.Listing.{wants_bytes, wants_tracked}
 use Rattle.hg_flat.specs.Met.{Status}
+use Rattle.hg_flat.specs.Needed.{ReadsPaths}
 use Rattle.hg_flat.specs.Parent.{KeepsRow}
 use Rattle.hg_flat.specs.Passed.{WasDir, WasNoDir}
 use Rattle.hg_flat.specs.declared.kept.FlatRow.{FlatRow}
 use Rattle.hg_flat.specs.declared.parent.Parent.{Parent}
 use Rattle.hg_listing.specs.declared.row.Row.{Row}
 use Rattle.hg_listing.specs.declared.row.Wanted.{Wanted}
-use Rattle.hg_mixed.specs.Gathered.{path_of}
+use Rattle.hg_mixed.specs.Gathered.{path_of, paths_of}
 use Rattle.hg_mixed.specs.declared.line.Line.{Line}
 use Rattle.hg_mtime.specs.Stamps.{stamp_of}
 use Rattle.hg_mtime.specs.Vouching.{vouches}
@@ -31,12 +36,11 @@ use Rattle.hg_tree.specs.History as trees
 use Rattle.hg_tree.specs.Honest.{IsHonest}
 use Rattle.hg_tree.specs.Moment.{stat_at}
 use Rattle.hg_tree.specs.Still.{Untouched}
-use Rattle.hg_walk.specs.Finding.{WasClock, rows_then}
+use Rattle.hg_walk.specs.Finding.{WasClock, rows_by}
 use Rattle.hg_walk.specs.Marks.{is_no_dir, mark_of, stands}
 use Rattle.hg_walk.specs.Notes.{AreClean, CleanNote, NotesData, clean_at}
 use Rattle.hg_walk.specs.Walking.{IsNeededNote, first_id}
 use Rattle.hg_walk.specs.declared.mark.Mark.{Mark}
-use Rattle.hg_walk.specs.declared.telling.Seen.{Seen}
 
 -- ---- the paths of a record
 
@@ -49,6 +53,11 @@ pub record IsChildOf (t : Table) (child : Line) : Type 0 where
 pub record AreOf (t : Table) (id : Id20) (children : List Line) : Type 0 where
   pub first : id ≡ first_id t
   pub each : (child : Line) → Contains children child → IsChildOf t child
+
+-- these are all of its paths with an entry, and they ascend
+pub record AreAllOf (t : Table) (children : List Line) : Type 0 where
+  pub ascending : IsStrictlySortedBy (slice_cmp nat_cmp) (paths_of children)
+  pub all : (path : List ℕ) (entry : EntryData) → t.entries path ≡ Some entry → (child : Line) × Contains children child × (path_of child ≡ path)
 
 -- a child has a copy source
 abbrev pub copied_in : Line → Bool
@@ -70,11 +79,17 @@ tracked_rows (child ∷ children) = rows_with child child.entry ++ tracked_rows 
 -- ---- what is put
 
 -- the rows of children were put behind the rows so far, by what both devices tell before and behind it; under the premise they are those of the
--- paths' letters
-abbrev pub TellsEach : Type 0 → Status → List Line → List Row → List Row → Type 0
-TellsEach Premise s children old new =
-    AddsBy s.asks Premise (IsLeftAsked s.asks s.id s.tree_new s.tree_old.last s.shelf_new s.shelf_old.last) (shelves.now s.shelf_old).files s.id
+-- paths' letters, by a store
+abbrev pub TellsEach : shelves.Files → Type 0 → Status → List Line → List Row → List Row → Type 0
+TellsEach store Premise s children old new =
+    AddsBy s.asks Premise (IsLeftAsked store s.asks s.id s.tree_new s.tree_old.last s.shelf_new s.shelf_old.last) store s.id
     (trees.now s.tree_old) s.wanted (tracked_rows children) old new
+
+-- ---- what is read
+
+-- the bytes of the first of some children were asked for, one child behind another, each only where they were needed, and nothing else
+abbrev pub ReadsFront : Status → List Line → Type 0
+ReadsFront s children = (n : ℕ) × ReadsPaths s (paths_of (take n children))
 
 -- ---- what looks showed
 
@@ -113,22 +128,22 @@ pub record WasShown (old new : trees.History) (path : List ℕ) (stat : Stat) : 
   pub to : at ≤ new.last
   pub shows : stat_at (new.at at) path ≡ Some stat
 
--- nobody touches what the first parent has of any path
-abbrev pub KeepsRows : Status → Type 0
-KeepsRows s = (path : List ℕ) → KeepsRow s.shelf_new s.shelf_old.last s.id path
+-- what the first parent has of each path is a store's, wherever it is there
+abbrev pub KeepsRows : shelves.Files → Status → Type 0
+KeepsRows store s = (path : List ℕ) → KeepsRow store s.shelf_new s.shelf_old.last s.id path
 
--- what is noted of children: needed times alone, each by the boundary and from a look in the call; whatever others do they are earned, and no clean path
--- is left out that is left alone, nor what the first parent has of it, and whose time may be noted
+-- what is noted of children: needed times alone, each by the boundary and from a look in the call; whatever others do they are earned by each store that
+-- what the first parent has keeps to, and no clean path is left out that is left alone, and whose time may be noted
 pub record AreNotesOf (s : Status) (t : Table) (boundary : Time) (children : List Line) (notes : List CleanNote) : Type 0 where
   pub needed : (note : CleanNote) → Contains notes note → IsNeededNote t note
   pub stamp : (note : CleanNote) → Contains notes note → stamp_of note.stat.mtime boundary ≡ Some note.stamp
   pub shown : IsTrue s.tree_old.told → (note : CleanNote) → Contains notes note → WasShown s.tree_old s.tree_new note.path note.stat
-  pub earned : IsHonest s.tree_new → IsTrue s.tree_old.told → WasClock s.tree_old boundary → KeepsRows s → AreClean (rows_then s) t s.tree_new notes
-  pub recorded : IsTrue s.tree_old.told → wants_bytes s.wanted ≡ true
+  pub earned : (store : shelves.Files) → IsHonest s.tree_new → IsTrue s.tree_old.told → WasClock s.tree_old boundary → KeepsRows store s → AreClean (rows_by store s) t s.tree_new notes
+  pub recorded : (store : shelves.Files) → IsTrue s.tree_old.told → wants_bytes s.wanted ≡ true
       → (child : Line) (entry : EntryData) (stat : Stat) (stamp : StampData) → Contains children child → Untouched s.tree_new s.tree_old.last (path_of child)
-      → KeepsRow s.shelf_new s.shelf_old.last s.id (path_of child) → t.entries (path_of child) ≡ Some entry
+      → KeepsRow store s.shelf_new s.shelf_old.last s.id (path_of child) → t.entries (path_of child) ≡ Some entry
       → stat_at (trees.now s.tree_old) (path_of child) ≡ Some stat
-      → tracked_letter (rows_then s (path_of child)) (marks_of entry) (is_some (t.sources (path_of child))) ((trees.now s.tree_old).things (path_of child)) ≡ Some a_letter.C
+      → tracked_letter (rows_by store s (path_of child)) (marks_of entry) (is_some (t.sources (path_of child))) ((trees.now s.tree_old).things (path_of child)) ≡ Some a_letter.C
       → vouches entry (is_some (t.sources (path_of child))) stat ≡ false → stamp_of stat.mtime boundary ≡ Some stamp
       → clean_at notes (path_of child) ≡ Some (record { path = path_of child; stat = stat; stamp = stamp })
 
@@ -147,13 +162,13 @@ pub record IsAtChild (s : Status) (t : Table) (parent : Parent) (child : Line) :
 abbrev pub ShowsNow : trees.History → List ℕ → Stat → Type 0
 ShowsNow h path stat = IsTrue h.told → stat_at (trees.now h) path ≡ Some stat
 
--- a letter that is found of an entry, or none
-abbrev pub IsLetterOf : Type 0 → Status → FlatRow → Option Letter → Type 0
-IsLetterOf Premise s row letter =
-    IsLetterBy s.asks Premise (IsLeftAsked s.asks s.id s.tree_new s.tree_old.last s.shelf_new s.shelf_old.last) (shelves.now s.shelf_old).files s.id
+-- a letter that is found of an entry by a store, or none
+abbrev pub IsLetterOf : shelves.Files → Type 0 → Status → FlatRow → Option Letter → Type 0
+IsLetterOf store Premise s row letter =
+    IsLetterBy s.asks Premise (IsLeftAsked store s.asks s.id s.tree_new s.tree_old.last s.shelf_new s.shelf_old.last) store s.id
     (trees.now s.tree_old) s.wanted row letter
 
 -- the note of a path
-abbrev pub notes_of : List ℕ → Option Seen → List CleanNote
+abbrev pub notes_of : List ℕ → Option (Stat × Stamp) → List CleanNote
 notes_of path None = []
-notes_of path (Some seen) = record { path = path; stat = seen.stat; stamp = stamp_view seen.stamp } ∷ []
+notes_of path (Some (stat, stamp)) = record { path = path; stat = stat; stamp = stamp_view stamp } ∷ []

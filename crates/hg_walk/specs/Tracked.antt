@@ -11,10 +11,11 @@ use Rattle.hg_flat.specs.Passed.{AreKnown}
 use Rattle.hg_listing.specs.declared.row.Row.{Row}
 use Rattle.hg_mixed.specs.declared.line.Line.{Line}
 use Rattle.hg_mtime.specs.Stamps.{stamp_of}
-use Rattle.hg_shelf.specs.Polite.{KeepsPlain}
+use Rattle.hg_shelf.specs.History.{Files}
+use Rattle.hg_shelf.specs.Polite.{StaysPlain}
 use Rattle.hg_tree.specs.History.{History, now}
 use Rattle.hg_tree.specs.Honest.{IsHonest}
-use Rattle.hg_walk.specs.Finding.{WasClock, rows_then}
+use Rattle.hg_walk.specs.Finding.{WasClock, rows_by}
 use Rattle.hg_walk.specs.Notes.{AreEarned, CleanNote, NotesData, applied}
 use Rattle.hg_walk.specs.Passing.{known_of}
 use Rattle.hg_walk.specs.Right.{AreRight}
@@ -30,7 +31,7 @@ IsBoundary asked new boundary = MatchBool asked (IsTrue new.told → boundary �
 pub record TellsAll (s : Status) (t : Table) (children : List Line) (marks : List Mark) (rows : List Row) : Type 0 where
   pub own : HaveOwnPaths (tracked_rows children)
   pub flat : flat_from t.p1 t.p2 (row_at (tracked_rows children)) ≡ flat_of t
-  pub added : TellsEach (AreRight (rows_then s) t s.tree_old s.tree_new) s children [] rows
+  pub added : (store : Files) → TellsEach store (AreRight (rows_by store s) t s.tree_old s.tree_new) s children [] rows
   pub known : AreKnown (known_of children marks) s.tree_new s.tree_old.last
 
 -- a boundary was the clock's at a moment so far, where anything is noted by it
@@ -43,7 +44,7 @@ pub record NotesAll (s : Status) (t : Table) (boundary : Time) (notes : NotesDat
   pub needed : AreNeeded t notes
   pub stamp : (note : CleanNote) → Contains notes.clean note → stamp_of note.stat.mtime boundary ≡ Some note.stamp
   pub shown : IsTrue s.tree_old.told → (note : CleanNote) → Contains notes.clean note → WasShown s.tree_old s.tree_new note.path note.stat
-  pub earned : IsHonest s.tree_new → IsTrue s.tree_old.told → WasClockOf s.tree_old boundary notes → KeepsPlain s.shelf_new s.shelf_old.last
-      → AreEarned (rows_then s) t s.tree_new notes
-  pub recorded : IsTrue s.tree_old.told → wants_bytes s.wanted ≡ true
-      → VouchesFor (IsLeftAsked s.asks s.id s.tree_new s.tree_old.last s.shelf_new s.shelf_old.last) (rows_then s) t (now s.tree_old) boundary (applied notes t)
+  pub earned : (store : Files) → IsHonest s.tree_new → IsTrue s.tree_old.told → WasClockOf s.tree_old boundary notes → StaysPlain store s.shelf_new s.shelf_old.last
+      → AreEarned (rows_by store s) t s.tree_new notes
+  pub recorded : (store : Files) → IsTrue s.tree_old.told → wants_bytes s.wanted ≡ true
+      → VouchesFor (IsLeftAsked store s.asks s.id s.tree_new s.tree_old.last s.shelf_new s.shelf_old.last) (rows_by store s) t (now s.tree_old) boundary (applied notes t)

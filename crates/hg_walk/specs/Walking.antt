@@ -44,9 +44,10 @@ first_id table = record { 0 = (flat_of table).p1 }
 abbrev pub rows_in : Table → shelves.Files → List ℕ → Option ParentRow
 rows_in table files = parent_rows files (first_id table)
 
--- nobody touches a path from a moment on, nor what the first parent has of it where it is compared then, nor the patterns where they decide its letter
-abbrev pub IsLeftBy : Wanted → Table → trees.History → ℕ → shelves.History → ℕ → List ℕ → Type 0
-IsLeftBy wanted table copy from files since = IsLeft wanted (flat_of table) (asked_unvouched wanted table) (first_id table) copy from files since
+-- nobody touches a path from a moment on, what the first parent has of it where it is compared then is a store's, and nobody touches the patterns where they
+-- decide its letter
+abbrev pub IsLeftBy : shelves.Files → Wanted → Table → trees.History → ℕ → shelves.History → ℕ → List ℕ → Type 0
+IsLeftBy store wanted table copy from files since = IsLeft store wanted (flat_of table) (asked_unvouched wanted table) (first_id table) copy from files since
 
 -- a walk over a record, by what both devices tell before and after it
 abbrev pub walk_status : Wanted → Table → trees.History → trees.History → shelves.History → shelves.History → Status
@@ -108,7 +109,7 @@ VouchesFor S rows table moment boundary after =
 
 -- a boundary was the clock's at a moment of the walk; each time is noted by it and from a look behind it; and whoever else steps, behind the notes the
 -- record vouches for each path that is left alone, is clean at the start, and has a time that may be recorded by that boundary
-pub record AreNotedBy (wanted : Wanted) (rows : List ℕ → Option ParentRow) (table : Table) (old new : trees.History) (files : shelves.History) (since : ℕ) (notes : NotesData) : Type 0 where
+pub record AreNotedBy (wanted : Wanted) (table : Table) (old new : trees.History) (files : shelves.History) (since : ℕ) (notes : NotesData) : Type 0 where
   pub boundary : Time
   pub at : ℕ
   pub from : old.last ≤ at
@@ -116,7 +117,7 @@ pub record AreNotedBy (wanted : Wanted) (rows : List ℕ → Option ParentRow) (
   pub clock : IsTrue old.told → boundary ≡ (new.at at).clock
   pub stamp : (note : CleanNote) → Contains notes.clean note → stamp_of note.stat.mtime boundary ≡ Some note.stamp
   pub shown : IsTrue old.told → (note : CleanNote) → Contains notes.clean note → WasSince at new (λ moment. stat_at moment note.path ≡ Some note.stat)
-  pub vouched : IsTrue old.told → VouchesFor (IsLeftBy wanted table new old.last files since) rows table (trees.now old) boundary (applied notes table)
+  pub vouched : (store : shelves.Files) → IsTrue old.told → VouchesFor (IsLeftBy store wanted table new old.last files since) (rows_in table store) table (trees.now old) boundary (applied notes table)
 
 -- where bytes decide letters that are wanted, a record vouches behind the walk for each path that is clean at a moment with a time that may be recorded
 -- then: the second walk reads no byte of it

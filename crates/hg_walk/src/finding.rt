@@ -1,11 +1,12 @@
 //! The letter of a path that a look shows, and the time that may be recorded of it.
 
-ghost use Rattle.std.specs.Prelude.{◌≡◌, true, false, IsTrue, IfErr, IfOk, IfSome, OnOk};
+ghost use Rattle.std.specs.Prelude.{◌≡◌, ◌⊎◌, true, false, IsTrue, IfErr, IfOk, IfSome, OnOk};
 ghost use Rattle.std.specs.Option.{option_map};
 ghost use Rattle.hg_compare.specs.Same.{Reads};
 ghost use Rattle.hg_entry.specs.Entry.{stamp_view, view};
 ghost use Rattle.hg_flat.specs.Course.{MetBy, Proceeds, upto};
 ghost use Rattle.hg_flat.specs.Met.{Status};
+ghost use Rattle.hg_flat.specs.Needed.{NeedsBytes};
 ghost use Rattle.hg_flat.specs.Parent.{WasAsked};
 ghost use Rattle.hg_flat.specs.Stored.{AsksStore};
 ghost use Rattle.hg_listing.specs.Cause.{HasShelfCause, HasStatusCause};
@@ -141,6 +142,10 @@ pub fn find<T: Tree, S: Shelf>(
     // Where the entry vouches, neither the working copy nor the files below `.hg` are asked, and nothing fails.
     ensures unread { vouches (view entry.now) copied before.now ≡ true → (tree.new ≡ tree.old) × (shelf.new ≡ shelf.old) }
     ensures kind { IfErr result (λ fault. vouches (view entry.now) copied before.now ≡ false) }
+    // The bytes are read only where the manifest that was read has a row of the path's kind and executable bit, whose contents had the size of the look.
+    ensures needed { (s : Status) → Proceeds (upto s (T.history tree.old) (S.history shelf.old)) parent.old
+        → (tree.new ≡ tree.old)
+        ⊎ NeedsBytes (upto s (T.history tree.new) (S.history shelf.new)) path.entry.text.now before.now }
     ensures asked { IsTrue (T.history tree.old).told → Reads before.now.size path.entry.text.now (T.history tree.old) (T.history tree.new) }
     ensures store { IfErr
         result

@@ -5,6 +5,8 @@ ghost use Rattle.std.specs.Option.{option_map};
 ghost use Rattle.hg_entry.specs.Table.{Table};
 ghost use Rattle.hg_flat.specs.Asked.{AsksReads};
 ghost use Rattle.hg_flat.specs.Course.{MetParent, Proceeds};
+ghost use Rattle.hg_flat.specs.First.{MetAt, MetFirst};
+ghost use Rattle.hg_flat.specs.Needed.{ReadsPath};
 ghost use Rattle.hg_flat.specs.Parent.{WasAsked};
 ghost use Rattle.hg_flat.specs.Stored.{AsksStore};
 ghost use Rattle.hg_listing.specs.Cause.{HasShelfCause, HasStatusCause};
@@ -13,7 +15,7 @@ ghost use Rattle.hg_shelf.specs.Images as images;
 ghost use Rattle.hg_tree.specs.History as trees;
 ghost use Rattle.hg_walk.specs.Marks.{mark_of};
 ghost use Rattle.hg_walk.specs.Right.{AreRight};
-ghost use Rattle.hg_walk.specs.Telling.{AreNotesOf, AreOf, IsAtChild, IsChildOf, IsLetterOf, IsMarked, MarksEach, NotesBehind, ShowsNow, TellsEach, copied_in, notes_of, tracked_row, with_clean_notes};
+ghost use Rattle.hg_walk.specs.Telling.{AreAllOf, AreNotesOf, AreOf, IsAtChild, IsChildOf, IsLetterOf, IsMarked, MarksEach, NotesBehind, ReadsFront, ShowsNow, TellsEach, copied_in, notes_of, tracked_row, with_clean_notes};
 ghost use Rattle.hg_walk.specs.Walking.{asked_unvouched, rows_in, walk_status};
 
 use crate::finding::find;
@@ -29,20 +31,13 @@ use hg_shelf::Shelf;
 use hg_tree::Tree;
 use std::alloc::Global;
 
-/// What a look showed of a clean path, and the time to be recorded.
-#[derive(Clone, Copy, Debug)]
-pub(crate) struct Seen {
-    pub stat: Stat,
-    pub stamp: Stamp,
-}
-
 /// What is told of a path with an entry.
 #[derive(Clone, Copy, Debug)]
 pub(crate) struct Told {
     /// Its letter, unless that isn't wanted.
     pub letter: Option<Letter>,
-    /// What is noted of it.
-    pub seen: Option<Seen>,
+    /// What is noted of it, where it is clean: what a look showed, and the time to be recorded.
+    pub seen: Option<(Stat, Stamp)>,
     /// What a look showed there.
     pub mark: Mark,
 }
@@ -53,15 +48,12 @@ fn is_copy(child: &Line<'_>) -> bool
     child.source.is_some()
 }
 
-fn seen_by(there: &Stat, stamp: Option<Stamp>) -> Option<Seen>
-    ensures { result ≡ option_map (λ s. record { stat = there.now; stamp = s }) stamp }
+fn seen_by(there: &Stat, stamp: Option<Stamp>) -> Option<(Stat, Stamp)>
+    ensures { result ≡ option_map (λ s. (there.now, s)) stamp }
 {
     match stamp {
         None => None,
-        Some(stamp) => Some(Seen {
-            stat: *there,
-            stamp,
-        }),
+        Some(stamp) => Some((*there, stamp)),
     }
 }
 
@@ -90,10 +82,11 @@ fn tell_there<T: Tree, S: Shelf>(
         → Proceeds (walk_status wanted t start (T.history tree.new) begun (S.history shelf.new)) parent.new) }
     ensures found { IfOk
         result
-        (λ told. (t : Table) (start : trees.History) (begun : shelves.History) → IsAtChild (walk_status wanted t start (T.history tree.old) begun (S.history shelf.old)) t parent.old child.now
+        (λ told. (t : Table) (start : trees.History) (begun : shelves.History) (store : shelves.Files) → IsAtChild (walk_status wanted t start (T.history tree.old) begun (S.history shelf.old)) t parent.old child.now
         → ShowsNow (T.history tree.old) child.now.path.text.now there.now
         → IsLetterOf
-        (AreRight (rows_in t (shelves.now begun).files) t start (T.history tree.new))
+        store
+        (AreRight (rows_in t store) t start (T.history tree.new))
         (walk_status wanted t (T.history tree.old) (T.history tree.new) begun (S.history shelf.new))
         (tracked_row child.now entry.now)
         told.letter) }
@@ -113,6 +106,15 @@ fn tell_there<T: Tree, S: Shelf>(
         (λ fault. (t : Table) (start : trees.History) (begun : shelves.History) → IsAtChild (walk_status wanted t start (T.history tree.old) begun (S.history shelf.old)) t parent.old child.now
         → ShowsNow (T.history tree.old) child.now.path.text.now there.now
         → MetParent (walk_status wanted t start (T.history tree.new) begun (S.history shelf.new)) fault) }
+    // Absent contents are those of this path.
+    ensures names { IfErr
+        result
+        (λ fault. (t : Table) (start : trees.History) (begun : shelves.History) → IsAtChild (walk_status wanted t start (T.history tree.old) begun (S.history shelf.old)) t parent.old child.now
+        → ShowsNow (T.history tree.old) child.now.path.text.now there.now
+        → MetAt
+        (walk_status wanted t start (T.history tree.new) begun (S.history shelf.new))
+        child.now.path.text.now
+        fault) }
     ensures asked { IsTrue (T.history tree.old).told
         → ShowsNow (T.history tree.old) child.now.path.text.now there.now
         → (t : Table) → IsChildOf t child.now
@@ -120,6 +122,14 @@ fn tell_there<T: Tree, S: Shelf>(
         (WasAsked (asked_unvouched wanted t) (T.history tree.old) (T.history tree.new))
         (T.history tree.old)
         (T.history tree.new) }
+    // Its bytes are read only where nothing else decides its letter.
+    ensures reads { (t : Table) (start : trees.History) (begun : shelves.History) → IsAtChild (walk_status wanted t start (T.history tree.old) begun (S.history shelf.old)) t parent.old child.now
+        → ShowsNow (T.history tree.old) child.now.path.text.now there.now
+        → IsTrue (T.history tree.old).told
+        → ReadsPath
+        (walk_status wanted t start (T.history tree.new) begun (S.history shelf.new))
+        (T.history tree.old)
+        child.now.path.text.now }
     ensures unasked { (t : Table) → IsChildOf t child.now
         → ShowsNow (T.history tree.old) child.now.path.text.now there.now
         → (WasAsked (asked_unvouched wanted t) (T.history tree.old) (T.history tree.new) child.now.path.text.now → ⊥)
@@ -180,9 +190,10 @@ fn tell_tracked<T: Tree, S: Shelf>(
         → Proceeds (walk_status wanted t start (T.history tree.new) begun (S.history shelf.new)) parent.new) }
     ensures found { IfOk
         result
-        (λ told. (t : Table) (start : trees.History) (begun : shelves.History) → IsAtChild (walk_status wanted t start (T.history tree.old) begun (S.history shelf.old)) t parent.old child.now
+        (λ told. (t : Table) (start : trees.History) (begun : shelves.History) (store : shelves.Files) → IsAtChild (walk_status wanted t start (T.history tree.old) begun (S.history shelf.old)) t parent.old child.now
         → IsLetterOf
-        (AreRight (rows_in t (shelves.now begun).files) t start (T.history tree.new))
+        store
+        (AreRight (rows_in t store) t start (T.history tree.new))
         (walk_status wanted t (T.history tree.old) (T.history tree.new) begun (S.history shelf.new))
         (tracked_row child.now entry.now)
         told.letter) }
@@ -200,12 +211,25 @@ fn tell_tracked<T: Tree, S: Shelf>(
         result
         (λ fault. (t : Table) (start : trees.History) (begun : shelves.History) → IsAtChild (walk_status wanted t start (T.history tree.old) begun (S.history shelf.old)) t parent.old child.now
         → MetParent (walk_status wanted t start (T.history tree.new) begun (S.history shelf.new)) fault) }
+    ensures names { IfErr
+        result
+        (λ fault. (t : Table) (start : trees.History) (begun : shelves.History) → IsAtChild (walk_status wanted t start (T.history tree.old) begun (S.history shelf.old)) t parent.old child.now
+        → MetAt
+        (walk_status wanted t start (T.history tree.new) begun (S.history shelf.new))
+        child.now.path.text.now
+        fault) }
     ensures asked { IsTrue (T.history tree.old).told
         → (t : Table) → IsChildOf t child.now
         → AsksReads
         (WasAsked (asked_unvouched wanted t) (T.history tree.old) (T.history tree.new))
         (T.history tree.old)
         (T.history tree.new) }
+    ensures reads { (t : Table) (start : trees.History) (begun : shelves.History) → IsAtChild (walk_status wanted t start (T.history tree.old) begun (S.history shelf.old)) t parent.old child.now
+        → IsTrue (T.history tree.old).told
+        → ReadsPath
+        (walk_status wanted t start (T.history tree.new) begun (S.history shelf.new))
+        (T.history tree.old)
+        child.now.path.text.now }
     ensures unasked { (t : Table) → IsChildOf t child.now
         → (WasAsked (asked_unvouched wanted t) (T.history tree.old) (T.history tree.new) child.now.path.text.now → ⊥)
         → shelf.new ≡ shelf.old }
@@ -247,14 +271,14 @@ fn tell_tracked<T: Tree, S: Shelf>(
 fn note_seen(
     alloc: Global,
     path: PathRef<'_>,
-    seen: Option<Seen>,
+    seen: Option<(Stat, Stamp)>,
     notes: &mut Notes,
 ) -> Result<(), OutOfMemory>
     ensures { OnOk result (notes.new ≡ with_clean_notes (notes_of path.entry.text.now seen) notes.old) }
 {
     match seen {
         None => Ok(()),
-        Some(seen) => notes.add_clean(Path::of(alloc, path)?, seen.stat, seen.stamp),
+        Some((stat, stamp)) => notes.add_clean(Path::of(alloc, path)?, stat, stamp),
     }
 }
 
@@ -280,9 +304,10 @@ fn tell_one<T: Tree, S: Shelf>(
         → Proceeds (walk_status wanted t start (T.history tree.new) begun (S.history shelf.new)) parent.new) }
     ensures row { OnOk
         result
-        ((t : Table) (start : trees.History) (begun : shelves.History) → IsAtChild (walk_status wanted t start (T.history tree.old) begun (S.history shelf.old)) t parent.old child.now
+        ((t : Table) (start : trees.History) (begun : shelves.History) (store : shelves.Files) → IsAtChild (walk_status wanted t start (T.history tree.old) begun (S.history shelf.old)) t parent.old child.now
         → TellsEach
-        (AreRight (rows_in t (shelves.now begun).files) t start (T.history tree.new))
+        store
+        (AreRight (rows_in t store) t start (T.history tree.new))
         (walk_status wanted t (T.history tree.old) (T.history tree.new) begun (S.history shelf.new))
         (child.now ∷ [])
         rows.old.items
@@ -304,12 +329,25 @@ fn tell_one<T: Tree, S: Shelf>(
         result
         (λ fault. (t : Table) (start : trees.History) (begun : shelves.History) → IsAtChild (walk_status wanted t start (T.history tree.old) begun (S.history shelf.old)) t parent.old child.now
         → MetParent (walk_status wanted t start (T.history tree.new) begun (S.history shelf.new)) fault) }
+    ensures names { IfErr
+        result
+        (λ fault. (t : Table) (start : trees.History) (begun : shelves.History) → IsAtChild (walk_status wanted t start (T.history tree.old) begun (S.history shelf.old)) t parent.old child.now
+        → MetAt
+        (walk_status wanted t start (T.history tree.new) begun (S.history shelf.new))
+        child.now.path.text.now
+        fault) }
     ensures asked { IsTrue (T.history tree.old).told
         → (t : Table) → IsChildOf t child.now
         → AsksReads
         (WasAsked (asked_unvouched wanted t) (T.history tree.old) (T.history tree.new))
         (T.history tree.old)
         (T.history tree.new) }
+    ensures reads { (t : Table) (start : trees.History) (begun : shelves.History) → IsAtChild (walk_status wanted t start (T.history tree.old) begun (S.history shelf.old)) t parent.old child.now
+        → IsTrue (T.history tree.old).told
+        → ReadsPath
+        (walk_status wanted t start (T.history tree.new) begun (S.history shelf.new))
+        (T.history tree.old)
+        child.now.path.text.now }
     ensures unasked { (t : Table) → IsChildOf t child.now
         → (WasAsked (asked_unvouched wanted t) (T.history tree.old) (T.history tree.new) child.now.path.text.now → ⊥)
         → shelf.new ≡ shelf.old }
@@ -351,9 +389,10 @@ pub(crate) fn tell_each<T: Tree, S: Shelf>(
     // Where the record's times are right over the pass, each row is that of the path's letter; what a comparison asks for is there in any case.
     ensures added { OnOk
         result
-        ((t : Table) → AreOf t p1.now children.now
+        ((t : Table) (store : shelves.Files) → AreOf t p1.now children.now
         → TellsEach
-        (AreRight (rows_in t (shelves.now (S.history shelf.old)).files) t (T.history tree.old) (T.history tree.new))
+        store
+        (AreRight (rows_in t store) t (T.history tree.old) (T.history tree.new))
         (walk_status wanted t (T.history tree.old) (T.history tree.new) (S.history shelf.old) (S.history shelf.new))
         children.now
         rows.old.items
@@ -377,12 +416,24 @@ pub(crate) fn tell_each<T: Tree, S: Shelf>(
         result
         (λ fault. (t : Table) → AreOf t p1.now children.now
         → MetParent (walk_status wanted t (T.history tree.old) (T.history tree.new) (S.history shelf.old) (S.history shelf.new)) fault) }
+    // Of several contents that are absent those of the first path are answered.
+    ensures first { IfErr
+        result
+        (λ fault. (t : Table) → AreOf t p1.now children.now
+        → AreAllOf t children.now
+        → MetFirst (walk_status wanted t (T.history tree.old) (T.history tree.new) (S.history shelf.old) (S.history shelf.new)) fault) }
     ensures asked { IsTrue (T.history tree.old).told
         → (t : Table) → AreOf t p1.now children.now
         → AsksReads
         (WasAsked (asked_unvouched wanted t) (T.history tree.old) (T.history tree.new))
         (T.history tree.old)
         (T.history tree.new) }
+    // The bytes of each path are read in one comparison at most, and only where they are needed.
+    ensures reads { IsTrue (T.history tree.old).told
+        → (t : Table) → AreOf t p1.now children.now
+        → ReadsFront
+        (walk_status wanted t (T.history tree.old) (T.history tree.new) (S.history shelf.old) (S.history shelf.new))
+        children.now }
     ensures unasked { (t : Table) → AreOf t p1.now children.now
         → ((path : List ℕ) → WasAsked (asked_unvouched wanted t) (T.history tree.old) (T.history tree.new) path → ⊥)
         → shelf.new ≡ shelf.old }

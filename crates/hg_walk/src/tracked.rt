@@ -3,6 +3,8 @@
 ghost use Rattle.std.specs.Prelude.{◌≡◌, ℕ, List, IsTrue, IfErr, IfOk};
 ghost use Rattle.hg_flat.specs.Asked.{AsksReads};
 ghost use Rattle.hg_flat.specs.Course.{MetParent};
+ghost use Rattle.hg_flat.specs.First.{MetFirst};
+ghost use Rattle.hg_flat.specs.Needed.{ReadsNeeded};
 ghost use Rattle.hg_flat.specs.Parent.{WasAsked};
 ghost use Rattle.hg_flat.specs.Stored.{AsksStore};
 ghost use Rattle.hg_listing.specs.Cause.{HasShelfCause, HasStatusCause};
@@ -62,11 +64,18 @@ pub(crate) fn tell_all<'t, T: Tree, S: Shelf>(
     ensures met { IfErr
         result
         (MetParent (walk_status wanted (table mixed.now) (T.history tree.old) (T.history tree.new) (S.history shelf.old) (S.history shelf.new))) }
+    // Of several contents that are absent those of the first path are answered.
+    ensures first { IfErr
+        result
+        (MetFirst (walk_status wanted (table mixed.now) (T.history tree.old) (T.history tree.new) (S.history shelf.old) (S.history shelf.new))) }
     ensures asked { IsTrue (T.history tree.old).told
         → AsksReads
         (WasAsked (asked_unvouched wanted (table mixed.now)) (T.history tree.old) (T.history tree.new))
         (T.history tree.old)
         (T.history tree.new) }
+    // The bytes of each path are read in one comparison at most, and only where nothing else decides its letter.
+    ensures reads { IsTrue (T.history tree.old).told
+        → ReadsNeeded (walk_status wanted (table mixed.now) (T.history tree.old) (T.history tree.new) (S.history shelf.old) (S.history shelf.new)) }
     ensures unasked { ((path : List ℕ) → WasAsked (asked_unvouched wanted (table mixed.now)) (T.history tree.old) (T.history tree.new) path → ⊥)
         → shelf.new ≡ shelf.old }
     ensures store { IsTrue (S.history shelf.old).told

@@ -4,8 +4,10 @@ ghost use Rattle.std.specs.Prelude.{◌≡◌, false, true, ℕ, List, IsTrue, I
 ghost use Rattle.hg_base.specs.Fault.{HasCause};
 ghost use Rattle.hg_entry.specs.Table.{flat_of};
 ghost use Rattle.hg_flat.specs.Asked.{AsksAll, AsksBehind, AsksNothing, IsListedDir, pattern_reads};
+ghost use Rattle.hg_flat.specs.First.{MetFirst};
 ghost use Rattle.hg_flat.specs.Listing.{wants_bytes};
 ghost use Rattle.hg_flat.specs.Met.{Met};
+ghost use Rattle.hg_flat.specs.Needed.{AsksNeeded};
 ghost use Rattle.hg_flat.specs.Parent.{IsAsked, IsServed, WasAsked};
 ghost use Rattle.hg_flat.specs.Patterns.{CountsOversize, HadPatterns, Warns, ignored_at, is_of_parent, needs_patterns};
 ghost use Rattle.hg_flat.specs.Stored.{AsksStore};
@@ -14,7 +16,7 @@ ghost use Rattle.hg_listing.specs.Full.{IsFull, IsFullFor};
 ghost use Rattle.hg_mixed.specs.Held.{table};
 ghost use Rattle.hg_shelf.specs.History as shelves;
 ghost use Rattle.hg_shelf.specs.Images as images;
-ghost use Rattle.hg_shelf.specs.Polite.{KeepsPlain};
+ghost use Rattle.hg_shelf.specs.Polite.{StaysPlain};
 ghost use Rattle.hg_tree.specs.History as trees;
 ghost use Rattle.hg_tree.specs.Honest.{IsHonest};
 ghost use Rattle.hg_walk.specs.Notes.{AreEarned, applied};
@@ -63,28 +65,29 @@ pub fn walk<T: Tree, S: Shelf, G: Regexps>(
     ensures passes_shelf { shelves.Passes (S.history shelf.old) (S.history shelf.new) }
     ensures kept { images.Goes (images.course (S.history shelf.old) (S.images shelf.old)) (images.course (S.history shelf.new) (S.images shelf.new)) }
     ensures held { S.held shelf.new ≡ S.held shelf.old }
-    // Where recorded times are right over the call, a path that is left alone has exactly its rows.
-    ensures still { AreRight (rows_in (table mixed.now) (shelves.now (S.history shelf.old)).files) (table mixed.now) (T.history tree.old) (T.history tree.new)
+    // Here a store is any whose bytes the files of the plain store have wherever they are there during the call: the files at its end where others keep what is
+    // there, though absent files come. Where recorded times are right over the call by a store, a path that is left alone has exactly its rows by it.
+    ensures still { (store : shelves.Files) → AreRight (rows_in (table mixed.now) store) (table mixed.now) (T.history tree.old) (T.history tree.new)
         → IfOk
         result
         (λ walked. IsFullFor
-        (IsLeftBy wanted (table mixed.now) (T.history tree.new) (T.history tree.old).last (S.history shelf.new) (S.history shelf.old).last)
+        (IsLeftBy store wanted (table mixed.now) (T.history tree.new) (T.history tree.old).last (S.history shelf.new) (S.history shelf.old).last)
         (flat_of (table mixed.now))
         (trees.now (T.history tree.old))
-        (rows_in (table mixed.now) (shelves.now (S.history shelf.old)).files)
+        (rows_in (table mixed.now) store)
         (ignored_at (trees.now (T.history tree.old)))
         wanted
         walked.rows) }
-    // Where nobody else steps and the plain store stays, the rows are the full listing.
-    ensures full { AreRight (rows_in (table mixed.now) (shelves.now (S.history shelf.old)).files) (table mixed.now) (T.history tree.old) (T.history tree.new)
+    // Where nobody else steps in the working copy, the rows are the full listing.
+    ensures full { (store : shelves.Files) → AreRight (rows_in (table mixed.now) store) (table mixed.now) (T.history tree.old) (T.history tree.new)
         → trees.IsOurs (T.history tree.old) (T.history tree.new)
-        → KeepsPlain (S.history shelf.new) (S.history shelf.old).last
+        → StaysPlain store (S.history shelf.new) (S.history shelf.old).last
         → IfOk
         result
         (λ walked. IsFull
         (flat_of (table mixed.now))
         (trees.now (T.history tree.old))
-        (rows_in (table mixed.now) (shelves.now (S.history shelf.old)).files)
+        (rows_in (table mixed.now) store)
         (ignored_at (trees.now (T.history tree.old)))
         wanted
         walked.rows) }
@@ -92,12 +95,16 @@ pub fn walk<T: Tree, S: Shelf, G: Regexps>(
     // Without a fault all that a comparison asked for was there.
     ensures served { OnOk
         result
-        ((path : List ℕ) → IsLeftBy wanted (table mixed.now) (T.history tree.new) (T.history tree.old).last (S.history shelf.new) (S.history shelf.old).last path
+        ((store : shelves.Files) (path : List ℕ) → IsLeftBy store wanted (table mixed.now) (T.history tree.new) (T.history tree.old).last (S.history shelf.new) (S.history shelf.old).last path
         → IsAsked (asked_unvouched wanted (table mixed.now)) (trees.now (T.history tree.old)) path
-        → IsServed (shelves.now (S.history shelf.old)).files (first_id (table mixed.now)) (trees.now (T.history tree.old)) path) }
+        → IsServed store (first_id (table mixed.now)) (trees.now (T.history tree.old)) path) }
     ensures met { IfErr
         result
         (Met (walk_status wanted (table mixed.now) (T.history tree.old) (T.history tree.new) (S.history shelf.old) (S.history shelf.new))) }
+    // Of several contents that are absent those of the first path are answered: what each path before it asks for was there.
+    ensures first { IfErr
+        result
+        (MetFirst (walk_status wanted (table mixed.now) (T.history tree.old) (T.history tree.new) (S.history shelf.old) (S.history shelf.new))) }
     // A fault of the first parent comes only behind patterns that were fine.
     ensures behind { IfErr result (λ fault. is_of_parent fault ≡ true → HadPatterns wanted (T.history tree.old) (T.history tree.new)) }
     ensures asked { IsTrue (T.history tree.old).told
@@ -116,30 +123,33 @@ pub fn walk<T: Tree, S: Shelf, G: Regexps>(
         (IsListedDir wanted (T.history tree.old) (T.history tree.new))
         (T.history tree.old)
         (T.history tree.new)) }
+    // The bytes of each path are read in one comparison at most, and only where neither kind, executable bit nor size decide its letter.
+    ensures reads { IsTrue (T.history tree.old).told
+        → AsksNeeded (walk_status wanted (table mixed.now) (T.history tree.old) (T.history tree.new) (S.history shelf.old) (S.history shelf.new)) }
     // Where no path is compared, the files below `.hg` aren't asked.
     ensures unasked { ((path : List ℕ) → WasAsked (asked_unvouched wanted (table mixed.now)) (T.history tree.old) (T.history tree.new) path → ⊥)
         → shelf.new ≡ shelf.old }
     ensures asked_store { IsTrue (S.history shelf.old).told
         → AsksStore (walk_status wanted (table mixed.now) (T.history tree.old) (T.history tree.new) (S.history shelf.old) (S.history shelf.new)) }
     // What is noted was seen, whatever others do in the working copy.
-    ensures earned { IsHonest (T.history tree.new)
+    ensures earned { (store : shelves.Files) → IsHonest (T.history tree.new)
         → IsTrue (T.history tree.old).told
-        → KeepsPlain (S.history shelf.new) (S.history shelf.old).last
+        → StaysPlain store (S.history shelf.new) (S.history shelf.old).last
         → IfOk
         result
         (λ walked. AreEarned
-        (rows_in (table mixed.now) (shelves.now (S.history shelf.old)).files)
+        (rows_in (table mixed.now) store)
         (table mixed.now)
         (T.history tree.new)
         walked.notes) }
-    // Where nobody else steps, all is noted that a second walk needs to read no clean file again.
-    ensures recorded { trees.IsOurs (T.history tree.old) (T.history tree.new)
-        → KeepsPlain (S.history shelf.new) (S.history shelf.old).last
+    // Where nobody else steps there, all is noted that a second walk needs to read no clean file again.
+    ensures recorded { (store : shelves.Files) → trees.IsOurs (T.history tree.old) (T.history tree.new)
+        → StaysPlain store (S.history shelf.new) (S.history shelf.old).last
         → IfOk
         result
         (λ walked. IsRecorded
         wanted
-        (rows_in (table mixed.now) (shelves.now (S.history shelf.old)).files)
+        (rows_in (table mixed.now) store)
         (table mixed.now)
         (trees.now (T.history tree.old))
         (applied walked.notes (table mixed.now))) }
@@ -150,7 +160,6 @@ pub fn walk<T: Tree, S: Shelf, G: Regexps>(
         result
         (λ walked. AreNotedBy
         wanted
-        (rows_in (table mixed.now) (shelves.now (S.history shelf.old)).files)
         (table mixed.now)
         (T.history tree.old)
         (T.history tree.new)

@@ -1,4 +1,7 @@
-use Rattle.std.proofs.Common.{rules, length, take}
+use Rattle.std.proofs.Common.{rules, [], ◌∷◌, length, take}
+use Rattle.std.proofs.lemmas.Result.{err_from_is_err_and}
+use Rattle.hg_shelf.specs.declared.asked.Asked.TheVariants as a_shelf_ask
+use Rattle.hg_shelf.proofs.Asks.{front_all}
 use Rattle.hg_compare.proofs.Moments.{other_bytes, piece_last, pieces_same, same_bytes, shorter}
 use Rattle.hg_compare.proofs.piece.same_piece.Goals as goal
 
@@ -32,3 +35,10 @@ returns-else-mine_read-mine-clause-found g c = (
       (rw c.in-Some.is at c.in_ok-mine_read.ensures.found) c.in_ok-theirs_read.ensures.found)
       (same_bytes _ _ c.ne.result c.if-ne.false c.ne.ensures),
 )
+
+pub returns-in_err-mine_read-clause-shelf_asked : goal.returns-in_err-mine_read-clause-shelf_asked
+returns-in_err-mine_read-clause-shelf_asked g c = λ told.
+    let p = err_from_is_err_and c.from_residual-in_err-mine_read.result c.from_residual-in_err-mine_read.ensures.1 in
+    rw p.1
+    (front_all (a_shelf_ask.Read c.args.name.now c.args.place (length c.args.theirs.now) ∷ []) (g.S.Shelf.history c.args.shelf.now) (g.S.Shelf.history c.read_theirs.new.shelf)
+    (c.in_ok-theirs_read.ensures.asked told))

@@ -17,4 +17,14 @@ returns-in-Err-clause-found g c = λ s first same.
 
 pub returns-in-Ok-clause-asked : goal.returns-in-Ok-clause-asked
 returns-in-Ok-clause-asked g c = λ told.
-    order_made (asks_of c.args.id.now) (g.S.Shelf.history c.args.shelf.now) (g.S.Shelf.history c.load.new.shelf) c.with_room.result (c.in-Ok.ensures.asked told)
+    let by = c.in-Ok.ensures.asked told in
+    record {
+      file = by.file;
+      was = by.was;
+      asks = order_made (asks_of c.args.id.now by.file) (g.S.Shelf.history c.args.shelf.now) (g.S.Shelf.history c.load.new.shelf) c.with_room.result by.asks;
+    }
+
+pub returns-in-Err-clause-asked : goal.returns-in-Err-clause-asked
+returns-in-Err-clause-asked g c = λ told.
+    let by = c.in-Err.ensures.asked told in
+    record { file = by.file; was = by.was; asks = by.asks }

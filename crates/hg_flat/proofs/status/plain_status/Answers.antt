@@ -1,9 +1,9 @@
 use Rattle.std.proofs.Common.{refl, sym, subst, ◌∙◌}
 use Rattle.std.proofs.lemmas.Result.{IfErr-weaker, IfOk-weaker, err_from_is_err_and}
-use Rattle.hg_shelf.specs.History as shelves
+use Rattle.hg_shelf.proofs.Histories as shelf
 use Rattle.hg_tree.specs.History as trees
 use Rattle.hg_tree.proofs.Histories.{extends_same}
-use Rattle.hg_tree.proofs.Spans.{ours_first, passes_trans}
+use Rattle.hg_tree.proofs.Spans.{ours_first, passes_same, passes_trans}
 use Rattle.hg_flat.specs.Course.{pieces_of}
 use Rattle.hg_flat.specs.Parent.{asked_by, parent_rows}
 use Rattle.hg_flat.specs.Passed.{nothing_known}
@@ -11,19 +11,21 @@ use Rattle.hg_flat.specs.Patterns.{Warns, ignored_at}
 use Rattle.hg_flat.specs.Shown.{flat_in}
 use Rattle.hg_flat.specs.declared.listed.Listed.{Listed}
 use Rattle.hg_flat.proofs.Asking.{never_each}
+use Rattle.hg_flat.proofs.Asks.{asks_none}
 use Rattle.hg_flat.proofs.Calls.{all_asks, asks_first, asks_second, own_asks}
 use Rattle.hg_flat.proofs.Fullness.{full_of}
 use Rattle.hg_flat.proofs.Judging.{marks_alike}
 use Rattle.hg_flat.proofs.Leaving.{left_all}
+use Rattle.hg_flat.proofs.Needing.{asks_needed, reads_no}
 use Rattle.hg_flat.proofs.Refusing.{had, is_kept, state_given, state_still, warns}
-use Rattle.hg_flat.proofs.Spanning.{counts_listing, counts_still, if_ok_on, met_listing, met_patterns, met_whole, not_parent, of_listing_none}
+use Rattle.hg_flat.proofs.Spanning.{counts_listing, counts_still, first_listing, first_patterns, first_whole, if_ok_on, met_listing, met_patterns, met_whole, not_parent, of_listing_none}
 use Rattle.hg_flat.proofs.Steps.{known_none}
 use Rattle.hg_flat.proofs.Storing.{store_longer, store_none}
 use Rattle.hg_flat.proofs.Whole.{Left, whole_listing, whole_served}
 use Rattle.hg_flat.proofs.status.plain_status.Goals as goal
 
 pub returns-clause-still : goal.returns-clause-still
-returns-clause-still g c =
+returns-clause-still g c = λ store.
     let old = g.T.Tree.history c.args.tree.now in
     let mid = g.T.Tree.history c.read_patterns.new.tree in
     let later = g.T.Tree.history c.add_each.new.tree in
@@ -35,12 +37,12 @@ returns-clause-still g c =
     IfOk-weaker c.list_others.result _ _
     (λ listed others.
     whole_listing asks (marks_alike c.args.wanted (flat_in flat)) (Unit {0}) flat.p1.0 flat.p2.0 flat.rows.items flat.own c.args.wanted c.args.p1.now old mid later new c.read_patterns.ensures.passes c.add_each.ensures.passes c.list_others.ensures.passes files start.last
-    (shelves.now start).files c.add_each.new.rows.items listed.rows (rw c.new-rows.ensures.items at c.in_ok-add_each.ensures.added) c.in_ok-ignore.ignore c.in_ok-ignore.ensures.kept
+    store c.add_each.new.rows.items listed.rows ((rw c.new-rows.ensures.items at c.in_ok-add_each.ensures.added) store) c.in_ok-ignore.ignore c.in_ok-ignore.ensures.kept
     nothing_known (known_none later mid.last c.add_each.ensures.passes.past.later) others tt)
     c.list_others.ensures.listed
 
 pub returns-clause-full : goal.returns-clause-full
-returns-clause-full g c = λ ours keeps.
+returns-clause-full g c = λ store ours keeps.
     let old = g.T.Tree.history c.args.tree.now in
     let mid = g.T.Tree.history c.read_patterns.new.tree in
     let later = g.T.Tree.history c.add_each.new.tree in
@@ -52,10 +54,10 @@ returns-clause-full g c = λ ours keeps.
     let whole = passes_trans old mid new c.read_patterns.ensures.passes (passes_trans mid later new c.add_each.ensures.passes c.list_others.ensures.passes) in
     IfOk-weaker c.list_others.result _ _
     (λ listed is.
-    full_of (Left asks (marks_alike c.args.wanted (flat_in flat)) (Unit {0}) flat.p1.0 flat.p2.0 flat.rows.items flat.own c.args.wanted c.args.p1.now old mid later new c.read_patterns.ensures.passes c.add_each.ensures.passes c.list_others.ensures.passes files start.last)
-    (flat_in flat) (trees.now old) (parent_rows (shelves.now start).files c.args.p1.now) (ignored_at (trees.now old)) c.args.wanted listed.rows
-    (left_all (flat_in flat) c.args.wanted asks c.args.p1.now old new whole ours files start.last keeps) is)
-    (returns-clause-still g c)
+    full_of (Left asks (marks_alike c.args.wanted (flat_in flat)) (Unit {0}) flat.p1.0 flat.p2.0 flat.rows.items flat.own c.args.wanted c.args.p1.now old mid later new c.read_patterns.ensures.passes c.add_each.ensures.passes c.list_others.ensures.passes files start.last store)
+    (flat_in flat) (trees.now old) (parent_rows store c.args.p1.now) (ignored_at (trees.now old)) c.args.wanted listed.rows
+    (left_all store (flat_in flat) c.args.wanted asks c.args.p1.now old new whole ours files start.last keeps) is)
+    (returns-clause-still g c store)
 
 pub returns-clause-served : goal.returns-clause-served
 returns-clause-served g c =
@@ -68,9 +70,9 @@ returns-clause-served g c =
     let flat = c.args.flat.now in
     let asks = asked_by c.args.wanted (flat_in flat) in
     if_ok_on c.list_others.result _ _
-    (λ listed others.
+    (λ listed others store.
     whole_served asks (marks_alike c.args.wanted (flat_in flat)) (Unit {0}) flat.p1.0 flat.p2.0 flat.rows.items flat.own c.args.wanted c.args.p1.now old mid later new c.read_patterns.ensures.passes c.add_each.ensures.passes c.list_others.ensures.passes files start.last
-    (shelves.now start).files c.add_each.new.rows.items listed.rows (rw c.new-rows.ensures.items at c.in_ok-add_each.ensures.added) c.in_ok-ignore.ignore c.in_ok-ignore.ensures.kept
+    store c.add_each.new.rows.items listed.rows ((rw c.new-rows.ensures.items at c.in_ok-add_each.ensures.added) store) c.in_ok-ignore.ignore c.in_ok-ignore.ensures.kept
     nothing_known (known_none later mid.last c.add_each.ensures.passes.past.later) others (λ m path asked. asked))
     c.list_others.ensures.listed
 
@@ -106,6 +108,21 @@ returns-clause-met g c =
     }))
     c.list_others.ensures.kind
 
+pub returns-clause-first : goal.returns-clause-first
+returns-clause-first g c =
+    IfErr-weaker c.list_others.result _ _
+    (first_listing
+    (record {
+      wanted = c.args.wanted;
+      asks = asked_by c.args.wanted (flat_in c.args.flat.now);
+      id = c.args.p1.now;
+      tree_old = g.T.Tree.history c.args.tree.now;
+      tree_new = g.T.Tree.history c.list_others.new.tree;
+      shelf_old = g.S.Shelf.history c.args.shelf.now;
+      shelf_new = g.S.Shelf.history c.add_each.new.shelf;
+    }))
+    c.list_others.ensures.kind
+
 pub returns-clause-behind : goal.returns-clause-behind
 returns-clause-behind g c =
     IfErr-weaker c.list_others.result _ _ (λ fault of is. absurd (of_listing_none fault of is)) c.list_others.ensures.kind
@@ -129,6 +146,22 @@ returns-in_err-ignore-clause-met g c =
     })
     c.in_err-ignore.field-0.0 c.in_err-ignore.ensures.needed c.in_err-ignore.ensures.met)
 
+pub returns-in_err-ignore-clause-first : goal.returns-in_err-ignore-clause-first
+returns-in_err-ignore-clause-first g c =
+    let p = err_from_is_err_and c.from_residual.result c.from_residual.ensures.1 in
+    rw (p.1, p.2)
+    (first_patterns
+    (record {
+      wanted = c.args.wanted;
+      asks = asked_by c.args.wanted (flat_in c.args.flat.now);
+      id = c.args.p1.now;
+      tree_old = g.T.Tree.history c.args.tree.now;
+      tree_new = g.T.Tree.history c.read_patterns.new.tree;
+      shelf_old = g.S.Shelf.history c.args.shelf.now;
+      shelf_new = g.S.Shelf.history c.args.shelf.now;
+    })
+    c.in_err-ignore.field-0.0 c.in_err-ignore.ensures.met)
+
 pub returns-in_err-ignore-clause-behind : goal.returns-in_err-ignore-clause-behind
 returns-in_err-ignore-clause-behind g c =
     let p = err_from_is_err_and c.from_residual.result c.from_residual.ensures.1 in
@@ -140,6 +173,13 @@ returns-in_err-add_each-clause-met g c =
     rw (p.1, p.2)
     (met_whole c.args.wanted (asked_by c.args.wanted (flat_in c.args.flat.now)) c.args.p1.now (g.T.Tree.history c.args.tree.now) (g.T.Tree.history c.read_patterns.new.tree)
     (g.T.Tree.history c.add_each.new.tree) c.read_patterns.ensures.passes (g.S.Shelf.history c.args.shelf.now) (g.S.Shelf.history c.add_each.new.shelf) c.in_err-add_each.field-0.0 c.in_err-add_each.ensures.met)
+
+pub returns-in_err-add_each-clause-first : goal.returns-in_err-add_each-clause-first
+returns-in_err-add_each-clause-first g c =
+    let p = err_from_is_err_and c.from_residual-in_err-add_each.result c.from_residual-in_err-add_each.ensures.1 in
+    rw (p.1, p.2)
+    (first_whole c.args.wanted (asked_by c.args.wanted (flat_in c.args.flat.now)) c.args.p1.now (g.T.Tree.history c.args.tree.now) (g.T.Tree.history c.read_patterns.new.tree)
+    (g.T.Tree.history c.add_each.new.tree) c.read_patterns.ensures.passes (g.S.Shelf.history c.args.shelf.now) (g.S.Shelf.history c.add_each.new.shelf) (marks_alike c.args.wanted (flat_in c.args.flat.now)) c.add_each.ensures.passes.past c.in_err-add_each.field-0.0 c.in_err-add_each.ensures.first)
 
 pub returns-in_err-add_each-clause-behind : goal.returns-in_err-add_each-clause-behind
 returns-in_err-add_each-clause-behind g c =
@@ -233,7 +273,7 @@ returns-in_err-ignore-clause-asked_store g c = λ told.
       shelf_old = g.S.Shelf.history c.args.shelf.now;
       shelf_new = g.S.Shelf.history c.args.shelf.now;
     })
-    refl
+    (shelf.passes_same (g.S.Shelf.history c.args.shelf.now)) refl
 
 pub returns-in_err-add_each-clause-asked_store : goal.returns-in_err-add_each-clause-asked_store
 returns-in_err-add_each-clause-asked_store g c = λ told.
@@ -262,3 +302,71 @@ returns-clause-asked_store g c = λ told.
       shelf_new = g.S.Shelf.history c.add_each.new.shelf;
     })
     (g.T.Tree.history c.args.tree.now) (g.T.Tree.history c.list_others.new.tree) c.read_patterns.ensures.passes.past c.add_each.ensures.passes.past c.list_others.ensures.passes.past (c.add_each.ensures.store told)
+
+-- ---- which bytes are read
+
+pub returns-in_err-ignore-clause-reads : goal.returns-in_err-ignore-clause-reads
+returns-in_err-ignore-clause-reads g c = λ told.
+    let old = g.T.Tree.history c.args.tree.now in
+    let mid = g.T.Tree.history c.read_patterns.new.tree in
+    asks_needed
+    (record {
+      wanted = c.args.wanted;
+      asks = asked_by c.args.wanted (flat_in c.args.flat.now);
+      id = c.args.p1.now;
+      tree_old = mid;
+      tree_new = mid;
+      shelf_old = g.S.Shelf.history c.args.shelf.now;
+      shelf_new = g.S.Shelf.history c.args.shelf.now;
+    })
+    old mid c.read_patterns.ensures.passes (passes_same mid) (passes_same mid) (λ dir. Unit {0}) (c.read_patterns.ensures.asked told)
+    (reads_no
+    (record {
+      wanted = c.args.wanted;
+      asks = asked_by c.args.wanted (flat_in c.args.flat.now);
+      id = c.args.p1.now;
+      tree_old = mid;
+      tree_new = mid;
+      shelf_old = g.S.Shelf.history c.args.shelf.now;
+      shelf_new = g.S.Shelf.history c.args.shelf.now;
+    })
+    refl)
+    (asks_none (λ dir. Unit {0}) mid mid refl)
+
+pub returns-in_err-add_each-clause-reads : goal.returns-in_err-add_each-clause-reads
+returns-in_err-add_each-clause-reads g c = λ told.
+    let old = g.T.Tree.history c.args.tree.now in
+    let mid = g.T.Tree.history c.read_patterns.new.tree in
+    let later = g.T.Tree.history c.add_each.new.tree in
+    asks_needed
+    (record {
+      wanted = c.args.wanted;
+      asks = asked_by c.args.wanted (flat_in c.args.flat.now);
+      id = c.args.p1.now;
+      tree_old = mid;
+      tree_new = later;
+      shelf_old = g.S.Shelf.history c.args.shelf.now;
+      shelf_new = g.S.Shelf.history c.add_each.new.shelf;
+    })
+    old later c.read_patterns.ensures.passes c.add_each.ensures.passes (passes_same later) (λ dir. Unit {0}) (c.read_patterns.ensures.asked told) (c.add_each.ensures.reads (c.read_patterns.ensures.passes.past.told ∙ told))
+    (asks_none (λ dir. Unit {0}) later later refl)
+
+pub returns-clause-reads : goal.returns-clause-reads
+returns-clause-reads g c = λ told.
+    let old = g.T.Tree.history c.args.tree.now in
+    let mid = g.T.Tree.history c.read_patterns.new.tree in
+    let later = g.T.Tree.history c.add_each.new.tree in
+    let new = g.T.Tree.history c.list_others.new.tree in
+    let past = passes_trans old mid later c.read_patterns.ensures.passes c.add_each.ensures.passes in
+    asks_needed
+    (record {
+      wanted = c.args.wanted;
+      asks = asked_by c.args.wanted (flat_in c.args.flat.now);
+      id = c.args.p1.now;
+      tree_old = mid;
+      tree_new = later;
+      shelf_old = g.S.Shelf.history c.args.shelf.now;
+      shelf_new = g.S.Shelf.history c.add_each.new.shelf;
+    })
+    old new c.read_patterns.ensures.passes c.add_each.ensures.passes c.list_others.ensures.passes _ (c.read_patterns.ensures.asked told) (c.add_each.ensures.reads (c.read_patterns.ensures.passes.past.told ∙ told))
+    (c.list_others.ensures.asked (past.past.told ∙ told) old past (known_none later old.last past.past.later))

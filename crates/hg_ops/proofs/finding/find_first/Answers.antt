@@ -1,13 +1,10 @@
-use Rattle.std.proofs.Common.{◌≡◌, ◌++◌, ◌∙◌, sym, subst}
+use Rattle.std.proofs.Common.{◌∙◌, sym, subst}
 use Rattle.std.proofs.lemmas.Result.{err_from_is_err_and}
-use Rattle.hg_base.specs.declared.id.Id20.{Id20}
-use Rattle.hg_manifest.specs.Load.{asks_of}
 use Rattle.hg_ops.specs.Parent.{HasAsked, IsManifest, upto}
 use Rattle.hg_ops.specs.Parents.{row_at}
 use Rattle.hg_ops.proofs.AskingStore.{keeps_loaded, store_failed, store_whole, whole_first}
 use Rattle.hg_ops.proofs.FoundSpans.{in_second}
 use Rattle.hg_ops.proofs.ReadParent.{manifest_later, met_in, met_load}
-use Rattle.hg_shelf.specs.Asks.{AsksFrontOf}
 use Rattle.hg_shelf.proofs.Histories as shelves
 use Rattle.hg_shelf.proofs.Scenes.{goes_trans}
 use Rattle.hg_tree.proofs.Spans as trees
@@ -42,8 +39,8 @@ returns-clause-goes g c = λ s keeps.
     keeps_loaded s old new c.args.parent.now c.find_in.new.loaded (shelves.passes_trans old mid new c.load.ensures.passes c.find_in.ensures.shelf_passes) keeps
     (subst (IsManifest (upto s new)) (sym c.find_in.ensures.manifest) read)
     (λ told.
-    whole_first s old mid new c.in_ok-loaded.loaded.manifest c.args.path.text.now (subst (HasAsked (upto s old)) c.requires (keeps.asked told))
-    (subst (λ (i : Id20). mid.asked ≡ old.asked ++ asks_of i) keeps.same (c.in_ok-loaded.ensures.asked (keeps.passes.past.told ∙ told)))
+    whole_first s old mid new c.in_ok-loaded.loaded.manifest c.args.path.text.now c.args.parent.now.id c.in_ok-loaded.loaded keeps.passes c.load.ensures.passes c.find_in.ensures.shelf_passes
+    (subst (HasAsked (upto s old)) c.requires (keeps.asked told)) keeps.same (c.in_ok-loaded.ensures.asked (keeps.passes.past.told ∙ told))
     read
     (c.find_in.ensures.contents (c.load.ensures.passes.past.told ∙ keeps.passes.past.told ∙ told)))
 
@@ -75,8 +72,8 @@ returns-in_err-loaded-clause-store g c =
     let new = g.S.Shelf.history c.load.new.shelf in
     rw p.1
     (λ s keeps told.
-    store_failed (upto s new) old (subst (HasAsked (upto s old)) c.requires (keeps.asked told))
-    (subst (λ (i : Id20). AsksFrontOf (asks_of i) old new) keeps.same (c.in_err-loaded.ensures.asked (keeps.passes.past.told ∙ told))))
+    store_failed (upto s new) old c.args.parent.now.id c.in_err-loaded.field-0.0 keeps.passes (subst (HasAsked (upto s old)) c.requires (keeps.asked told)) keeps.same
+    (c.in_err-loaded.ensures.asked (keeps.passes.past.told ∙ told)))
 
 pub returns-in_err-found-clause-store : goal.returns-in_err-found-clause-store
 returns-in_err-found-clause-store g c =
@@ -88,7 +85,7 @@ returns-in_err-found-clause-store g c =
     (λ s keeps told.
     let first = shelves.passes_trans s.old old mid keeps.passes c.load.ensures.passes in
     store_whole (upto s new)
-    (whole_first s old mid new c.in_ok-loaded.loaded.manifest c.args.path.text.now (subst (HasAsked (upto s old)) c.requires (keeps.asked told))
-    (subst (λ (i : Id20). mid.asked ≡ old.asked ++ asks_of i) keeps.same (c.in_ok-loaded.ensures.asked (keeps.passes.past.told ∙ told)))
+    (whole_first s old mid new c.in_ok-loaded.loaded.manifest c.args.path.text.now c.args.parent.now.id c.in_ok-loaded.loaded keeps.passes c.load.ensures.passes c.find_in.ensures.shelf_passes
+    (subst (HasAsked (upto s old)) c.requires (keeps.asked told)) keeps.same (c.in_ok-loaded.ensures.asked (keeps.passes.past.told ∙ told))
     (manifest_later s mid new c.in_ok-loaded.loaded.manifest first c.find_in.ensures.shelf_passes (c.in_ok-loaded.ensures.found s keeps.passes keeps.same))
     (c.find_in.ensures.contents (c.load.ensures.passes.past.told ∙ keeps.passes.past.told ∙ told))))

@@ -1,8 +1,8 @@
-use Rattle.std.proofs.Common.{true, false, [], ◌∙◌, arith}
+use Rattle.std.proofs.Common.{true, false, [], ◌∷◌, ◌∙◌, arith}
 use Rattle.std.proofs.lemmas.Result.{err_from_is_err_and}
 use Rattle.hg_shelf.specs.History.{now}
 use Rattle.hg_save.specs.Record.{data_name}
-use Rattle.hg_shelf.proofs.Asks.{front_first}
+use Rattle.hg_shelf.proofs.Asks.{answered, front_first}
 use Rattle.hg_shelf.specs.declared.asked.Asked.TheVariants as an_ask
 use Rattle.hg_save.proofs.Loads.{cut_front, front_free, front_gone, front_read}
 use Rattle.hg_save.proofs.loading.read_front.Goals as goal
@@ -29,10 +29,15 @@ returns-in-Ok-Bytes-clause-found g c = λ told.
 
 pub returns-in-Err-clause-asked : goal.returns-in-Err-clause-asked
 returns-in-Err-clause-asked g c = λ told.
-    front_first false (an_ask.Read (data_name c.args.id)) [] (g.S.Shelf.history c.args.shelf.now) (g.S.Shelf.history c.read_at.new.self)
-    (rw (c.as_str.ensures, c.of-name.ensures) at (c.in-Err.ensures.asked told))
+    front_first false (an_ask.Read (data_name c.args.id) 0 c.args.want) [] (g.S.Shelf.history c.args.shelf.now) (g.S.Shelf.history c.read_at.new.self)
+    (rw (c.as_str.ensures, c.of-name.ensures, c.as_mut_slice.ensures.len ∙ c.in_ok-nodes.ensures.len) at (c.in-Err.ensures.asked told))
 
 pub returns-in-Ok-Absent-clause-asked : goal.returns-in-Ok-Absent-clause-asked
 returns-in-Ok-Absent-clause-asked g c = λ told.
-    front_first true (an_ask.Read (data_name c.args.id)) [] (g.S.Shelf.history c.args.shelf.now) (g.S.Shelf.history c.read_at.new.self)
-    (rw (c.as_str.ensures, c.of-name.ensures) at (c.in-Ok-Absent.ensures.asked told))
+    front_first true (an_ask.Read (data_name c.args.id) 0 c.args.want) [] (g.S.Shelf.history c.args.shelf.now) (g.S.Shelf.history c.read_at.new.self)
+    (rw (c.as_str.ensures, c.of-name.ensures, c.as_mut_slice.ensures.len ∙ c.in_ok-nodes.ensures.len) at (c.in-Ok-Absent.ensures.asked told))
+
+pub returns-in-Ok-Bytes-clause-asked : goal.returns-in-Ok-Bytes-clause-asked
+returns-in-Ok-Bytes-clause-asked g c = λ told.
+    answered (an_ask.Read (data_name c.args.id) 0 c.args.want ∷ []) (g.S.Shelf.history c.args.shelf.now) (g.S.Shelf.history c.read_at.new.self)
+    (rw (c.as_str.ensures, c.of-name.ensures, c.as_mut_slice.ensures.len ∙ c.in_ok-nodes.ensures.len) at (c.in-Ok-Bytes.ensures.asked told))

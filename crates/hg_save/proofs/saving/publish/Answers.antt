@@ -13,7 +13,7 @@ returns-in_err-put-clause-safe g c = λ calm.
     let b : Course = course (g.S.Shelf.history c.put.new.shelf) (g.S.Shelf.images c.put.new.shelf) in
     is_put c.args.loaded.now c.args.new.now c.requires.over a b
     (g.met.S.Shelf.named_leaves c.args.shelf.now (g.S.Shelf.history c.args.shelf.now).last (last_scene a).files (g.met.S.Shelf.shown_named c.args.shelf.now (g.S.Shelf.history c.args.shelf.now).last calm.told (omega arith)))
-    (ended_one c.args.loaded.now.docket.items c.args.loaded.now.nodes.items c.args.new.now c.requires.over a b
+    (ended_one c.args.loaded.now.shown.items c.args.loaded.now.nodes.items c.args.new.now c.requires.over a b
     (record {
       goes = c.in_err-put.ensures.kept;
       leads = rw (c.as_str.ensures, c.of-name.ensures, c.as_slice.ensures.value) at c.in_err-put.ensures.torn;
@@ -27,7 +27,7 @@ returns-in_err-put-2-clause-safe g c = λ calm.
     let z : Course = course (g.S.Shelf.history c.put-2.new.shelf) (g.S.Shelf.images c.put-2.new.shelf) in
     is_put c.args.loaded.now c.args.new.now c.requires.over a z
     (g.met.S.Shelf.named_leaves c.args.shelf.now (g.S.Shelf.history c.args.shelf.now).last (last_scene a).files (g.met.S.Shelf.shown_named c.args.shelf.now (g.S.Shelf.history c.args.shelf.now).last calm.told (omega arith)))
-    (ended_two c.args.loaded.now.docket.items c.args.loaded.now.nodes.items c.args.new.now c.requires.over a b
+    (ended_two c.args.loaded.now.shown.items c.args.loaded.now.nodes.items c.args.new.now c.requires.over a b
     (record {
       goes = c.in_ok-put.ensures.kept;
       leads = rw (c.as_str.ensures, c.of-name.ensures, c.as_slice.ensures.value) at c.in_ok-put.ensures.torn;
@@ -47,7 +47,7 @@ returns-in_err-swap-clause-safe g c = λ calm.
     let z : Course = course (g.S.Shelf.history c.swap.new.shelf) (g.S.Shelf.images c.swap.new.shelf) in
     is_put c.args.loaded.now c.args.new.now c.requires.over a z
     (g.met.S.Shelf.named_leaves c.args.shelf.now (g.S.Shelf.history c.args.shelf.now).last (last_scene a).files (g.met.S.Shelf.shown_named c.args.shelf.now (g.S.Shelf.history c.args.shelf.now).last calm.told (omega arith)))
-    (ended_three c.args.loaded.now.docket.items c.args.loaded.now.nodes.items c.args.new.now c.requires.over a b
+    (ended_three c.args.loaded.now.shown.items c.args.loaded.now.nodes.items c.args.new.now c.requires.over a b
     (record {
       goes = c.in_ok-put.ensures.kept;
       leads = rw (c.as_str.ensures, c.of-name.ensures, c.as_slice.ensures.value) at c.in_ok-put.ensures.torn;
@@ -71,7 +71,7 @@ returns-clause-safe g c = λ calm.
     let z : Course = course (g.S.Shelf.history c.clear.new.shelf) (g.S.Shelf.images c.clear.new.shelf) in
     is_put c.args.loaded.now c.args.new.now c.requires.over a z
     (g.met.S.Shelf.named_leaves c.args.shelf.now (g.S.Shelf.history c.args.shelf.now).last (last_scene a).files (g.met.S.Shelf.shown_named c.args.shelf.now (g.S.Shelf.history c.args.shelf.now).last calm.told (omega arith)))
-    (ended_four c.args.loaded.now.docket.items c.args.loaded.now.nodes.items c.args.new.now c.requires.over a b
+    (ended_four c.args.loaded.now.shown.items c.args.loaded.now.nodes.items c.args.new.now c.requires.over a b
     (record {
       goes = c.in_ok-put.ensures.kept;
       leads = rw (c.as_str.ensures, c.of-name.ensures, c.as_slice.ensures.value) at c.in_ok-put.ensures.torn;
@@ -124,7 +124,7 @@ returns-clause-exact g c = λ calm.
     let e : Course = course (g.S.Shelf.history c.swap.new.shelf) (g.S.Shelf.images c.swap.new.shelf) in
     let z : Course = course (g.S.Shelf.history c.clear.new.shelf) (g.S.Shelf.images c.clear.new.shelf) in
     on_ok c.clear.result
-    (exact_four c.args.loaded.now.docket.items c.args.loaded.now.nodes.items c.args.new.now c.requires.over a b
+    (exact_four c.args.loaded.now.shown.items c.args.loaded.now.nodes.items c.args.new.now c.requires.over a b
     (record {
       goes = c.in_ok-put.ensures.kept;
       leads = rw (c.as_str.ensures, c.of-name.ensures, c.as_slice.ensures.value) at c.in_ok-put.ensures.torn;
@@ -153,8 +153,8 @@ returns-clause-sure g c = λ calm has.
     let e : Course = course (g.S.Shelf.history c.swap.new.shelf) (g.S.Shelf.images c.swap.new.shelf) in
     let z : Course = course (g.S.Shelf.history c.clear.new.shelf) (g.S.Shelf.images c.clear.new.shelf) in
     on_ok c.clear.result
-    (records_by c.args.loaded.now.docket.items c.args.loaded.now.nodes.items c.args.new.now c.requires.over a z (has_place c.args.loaded.now c.args.new.now c.requires.over (last_scene a) has)
-    (exact_four c.args.loaded.now.docket.items c.args.loaded.now.nodes.items c.args.new.now c.requires.over a b
+    (records_by c.args.loaded.now.shown.items c.args.loaded.now.nodes.items c.args.new.now c.requires.over a z (has_place c.args.loaded.now c.args.new.now c.requires.over (last_scene a) has)
+    (exact_four c.args.loaded.now.shown.items c.args.loaded.now.nodes.items c.args.new.now c.requires.over a b
     (record {
       goes = c.in_ok-put.ensures.kept;
       leads = rw (c.as_str.ensures, c.of-name.ensures, c.as_slice.ensures.value) at c.in_ok-put.ensures.torn;

@@ -8,8 +8,7 @@ use Rattle.hg_session.specs.Call.{Watched}
 use Rattle.hg_session.specs.declared.change_fault.ChangeFault.TheVariants as a_change_fault
 use Rattle.hg_save.proofs.Held.{held_passes, held_then}
 use Rattle.hg_session.proofs.Asking.{asks_read}
-use Rattle.hg_session.proofs.Changes.{asks_by, changes_by, done_by, loads_upto, met_acting, met_opened, met_read, met_writing, read_some, safe_by, used_there}
-use Rattle.hg_session.proofs.Doing.{op_late, writing_late}
+use Rattle.hg_session.proofs.Changes.{asks_by, changes_by, done_by, loads_upto, met_acting, met_opened, met_read, met_writing, safe_by, used_there}
 use Rattle.hg_session.proofs.Locked.{unwritten, unwritten_unless}
 use Rattle.hg_session.proofs.Makers.{makes_wide}
 use Rattle.hg_session.specs.Change.{of_change}
@@ -114,20 +113,6 @@ returns-in_err-lines-clause-failed g c = λ rose.
     let p = err_from_is_err_and c.from_residual-in_err-lines.result c.from_residual-in_err-lines.ensures.1 in
     p.1 ∙ ap Err (p.2 ∙ ap (λ (f : OpFault). a_change_fault.Op f) (cc (c.in_err-lines.ensures.acts.tree_failed rose)))
 
-pub returns-in_err-lines-clause-early : goal.returns-in_err-lines-clause-early
-returns-in_err-lines-clause-early g c =
-    let p = err_from_is_err_and c.from_residual-in_err-lines.result c.from_residual-in_err-lines.ensures.1 in
-    rw (p.1, p.2) (op_late c.in_err-lines.field-0.0)
-
-pub returns-in_err-lines-clause-behind : goal.returns-in_err-lines-clause-behind
-returns-in_err-lines-clause-behind g c =
-    let a : Course = course (g.S.Shelf.history c.args.shelf.now) (g.S.Shelf.images c.args.shelf.now) in
-    let b : Course = course (g.S.Shelf.history c.read.new.shelf) (g.S.Shelf.images c.read.new.shelf) in
-    let m : Course = course (g.S.Shelf.history c.act.new.shelf) (g.S.Shelf.images c.act.new.shelf) in
-    let acts = c.in_err-lines.ensures.acts in
-    inr (read_some a m m (passes_trans a.history b.history m.history c.in_ok-loaded.ensures.passes acts.below) (goes_same m) c.in_ok-loaded.loaded c.in_ok-loaded.loaded.whole.sound
-    (loads_upto a.history b.history m.history c.in_ok-loaded.loaded acts.below.past c.in_ok-loaded.ensures.found) c.in_ok-table.ensures.0 c.in_ok-table.ensures.1)
-
 pub returns-in_err-lines-clause-kept : goal.returns-in_err-lines-clause-kept
 returns-in_err-lines-clause-kept g c = goes_trans _ _ _ c.in_ok-loaded.ensures.kept c.in_err-lines.ensures.kept
 
@@ -181,11 +166,6 @@ returns-in_err-save-clause-unwritten g c =
     let loads = loads_upto a.history b.history m.history c.in_ok-loaded.loaded acts.below.past c.in_ok-loaded.ensures.found in
     rw (p.1, p.2) (unwritten_unless a m d passes c.in_err-save.ensures.kept c.in_err-save.field-0.0 c.in_err-save.ensures.unwritten)
 
-pub returns-in_err-save-clause-early : goal.returns-in_err-save-clause-early
-returns-in_err-save-clause-early g c =
-    let p = err_from_is_err_and c.from_residual-in_err-save.result c.from_residual-in_err-save.ensures.1 in
-    rw (p.1, p.2) (writing_late c.act.new.mixed _ _ c.in_err-save.field-0.0 c.in_err-save.ensures.met)
-
 pub returns-in_err-save-clause-safe : goal.returns-in_err-save-clause-safe
 returns-in_err-save-clause-safe g c = λ calm.
     let p = err_from_is_err_and c.from_residual-in_err-save.result c.from_residual-in_err-save.ensures.1 in
@@ -218,17 +198,6 @@ returns-in_err-save-clause-copy g c =
     changes_by a m d (passes_trans a.history b.history m.history c.in_ok-loaded.ensures.passes acts.below) c.in_err-save.ensures.kept c.in_ok-loaded.loaded c.in_ok-loaded.loaded.whole.sound
     (loads_upto a.history b.history m.history c.in_ok-loaded.loaded acts.below.past c.in_ok-loaded.ensures.found) c.in_ok-table.ensures.0 c.in_ok-table.ensures.1 c.args.command.now
     (record { old = g.T.Tree.history c.args.tree.now; new = g.T.Tree.history c.act.new.tree; before = g.T.Tree.faults c.args.tree.now; after = g.T.Tree.faults c.act.new.tree }) c.in_ok-table.table c.in_ok-table.ensures.2 acts.tree
-
-pub returns-in_err-save-clause-behind : goal.returns-in_err-save-clause-behind
-returns-in_err-save-clause-behind g c =
-    let a : Course = course (g.S.Shelf.history c.args.shelf.now) (g.S.Shelf.images c.args.shelf.now) in
-    let b : Course = course (g.S.Shelf.history c.read.new.shelf) (g.S.Shelf.images c.read.new.shelf) in
-    let m : Course = course (g.S.Shelf.history c.act.new.shelf) (g.S.Shelf.images c.act.new.shelf) in
-    let d : Course = course (g.S.Shelf.history c.save.new.shelf) (g.S.Shelf.images c.save.new.shelf) in
-    let acts = c.in_ok-lines.ensures.acts in
-    let passes = passes_trans a.history b.history m.history c.in_ok-loaded.ensures.passes acts.below in
-    let loads = loads_upto a.history b.history m.history c.in_ok-loaded.loaded acts.below.past c.in_ok-loaded.ensures.found in
-    inr (read_some a m d passes c.in_err-save.ensures.kept c.in_ok-loaded.loaded c.in_ok-loaded.loaded.whole.sound loads c.in_ok-table.ensures.0 c.in_ok-table.ensures.1)
 
 pub returns-in_err-save-clause-kept : goal.returns-in_err-save-clause-kept
 returns-in_err-save-clause-kept g c =
@@ -322,17 +291,6 @@ returns-clause-copy g c =
     changes_by a m d (passes_trans a.history b.history m.history c.in_ok-loaded.ensures.passes acts.below) c.in_ok-save.ensures.kept c.in_ok-loaded.loaded c.in_ok-loaded.loaded.whole.sound
     (loads_upto a.history b.history m.history c.in_ok-loaded.loaded acts.below.past c.in_ok-loaded.ensures.found) c.in_ok-table.ensures.0 c.in_ok-table.ensures.1 c.args.command.now
     (record { old = g.T.Tree.history c.args.tree.now; new = g.T.Tree.history c.act.new.tree; before = g.T.Tree.faults c.args.tree.now; after = g.T.Tree.faults c.act.new.tree }) c.in_ok-table.table c.in_ok-table.ensures.2 acts.tree
-
-pub returns-clause-behind : goal.returns-clause-behind
-returns-clause-behind g c =
-    let a : Course = course (g.S.Shelf.history c.args.shelf.now) (g.S.Shelf.images c.args.shelf.now) in
-    let b : Course = course (g.S.Shelf.history c.read.new.shelf) (g.S.Shelf.images c.read.new.shelf) in
-    let m : Course = course (g.S.Shelf.history c.act.new.shelf) (g.S.Shelf.images c.act.new.shelf) in
-    let d : Course = course (g.S.Shelf.history c.save.new.shelf) (g.S.Shelf.images c.save.new.shelf) in
-    let acts = c.in_ok-lines.ensures.acts in
-    let passes = passes_trans a.history b.history m.history c.in_ok-loaded.ensures.passes acts.below in
-    let loads = loads_upto a.history b.history m.history c.in_ok-loaded.loaded acts.below.past c.in_ok-loaded.ensures.found in
-    inr (read_some a m d passes c.in_ok-save.ensures.kept c.in_ok-loaded.loaded c.in_ok-loaded.loaded.whole.sound loads c.in_ok-table.ensures.0 c.in_ok-table.ensures.1)
 
 pub returns-clause-kept : goal.returns-clause-kept
 returns-clause-kept g c =

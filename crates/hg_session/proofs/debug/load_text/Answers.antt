@@ -19,7 +19,7 @@ returns-clause-found g c = λ told.
 
 pub returns-clause-cause : goal.returns-clause-cause
 returns-clause-cause g c =
-    cause_still IsBytesOf (g.S.Shelf.faults c.args.shelf.now) (g.S.Shelf.faults c.load.new.shelf) c.text_in.result (data_reading (docket_of c.in_ok-loaded.loaded.docket.items) c.in_ok-loaded.loaded.nodes.items)
+    cause_still IsBytesOf (g.S.Shelf.faults c.args.shelf.now) (g.S.Shelf.faults c.load.new.shelf) c.text_in.result (data_reading (docket_of c.in_ok-loaded.loaded.shown.items) c.in_ok-loaded.loaded.nodes.items)
     c.in_ok-loaded.ensures.cause.quiet c.text_in.ensures
 
 pub returns-in_err-loaded-clause-only : goal.returns-in_err-loaded-clause-only
@@ -35,4 +35,4 @@ pub returns-clause-asked : goal.returns-clause-asked
 returns-clause-asked g c = λ told. asks_load (g.S.Shelf.history c.args.shelf.now) (g.S.Shelf.history c.load.new.shelf) c.load.result (c.load.ensures.asked told)
 
 pub returns-clause-some : goal.returns-clause-some
-returns-clause-some g c = found_some IsBytesOf c.text_in.result (data_reading (docket_of c.in_ok-loaded.loaded.docket.items) c.in_ok-loaded.loaded.nodes.items) c.text_in.ensures
+returns-clause-some g c = found_some IsBytesOf c.text_in.result (data_reading (docket_of c.in_ok-loaded.loaded.shown.items) c.in_ok-loaded.loaded.nodes.items) c.text_in.ensures

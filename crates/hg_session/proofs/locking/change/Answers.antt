@@ -4,7 +4,7 @@ use Rattle.hg_session.proofs.Asking.{asks_nothing}
 use Rattle.hg_session.proofs.Freed.{once_done, once_locked, once_met, once_safe, once_unwritten, refused_same, taken_same}
 use Rattle.hg_session.proofs.Locks.{not_taken_by, noted_taken, refused_by, taken_by}
 use Rattle.hg_session.proofs.Makers.{as_wide, makes_wide, none_asked}
-use Rattle.hg_session.proofs.Widening.{asks_whole, changes_wide, read_some_wide}
+use Rattle.hg_session.proofs.Widening.{asks_whole, changes_wide}
 use Rattle.hg_session.specs.Acts.{AskNothing, Makes}
 use Rattle.hg_session.specs.Call.{Watched}
 use Rattle.hg_session.specs.Locks.{TakenAt}
@@ -186,24 +186,6 @@ returns-in-Ok-true-clause-kept g c =
     (course (g.S.Shelf.history c.unlock-freed.new.self) (g.S.Shelf.images c.unlock-freed.new.self)) c.lock.ensures.kept
     (goes_trans (course (g.S.Shelf.history c.lock.new.self) (g.S.Shelf.images c.lock.new.self)) (course (g.S.Shelf.history c.change_locked-done.new.shelf) (g.S.Shelf.images c.change_locked-done.new.shelf))
     (course (g.S.Shelf.history c.unlock-freed.new.self) (g.S.Shelf.images c.unlock-freed.new.self)) c.change_locked-done.ensures.kept c.unlock-freed.ensures.kept)
-
-pub returns-in-Ok-true-clause-behind : goal.returns-in-Ok-true-clause-behind
-returns-in-Ok-true-clause-behind g c =
-    let a : Course = course (g.S.Shelf.history c.args.shelf.now) (g.S.Shelf.images c.args.shelf.now) in
-    let b : Course = course (g.S.Shelf.history c.lock.new.self) (g.S.Shelf.images c.lock.new.self) in
-    let x : Course = course (g.S.Shelf.history c.change_locked-done.new.shelf) (g.S.Shelf.images c.change_locked-done.new.shelf) in
-    let d : Course = course (g.S.Shelf.history c.unlock-freed.new.self) (g.S.Shelf.images c.unlock-freed.new.self) in
-    let copy : Watched tree.History = record { old = g.T.Tree.history c.args.tree.now; new = g.T.Tree.history c.change_locked-done.new.tree; before = g.T.Tree.faults c.args.tree.now; after = g.T.Tree.faults c.change_locked-done.new.tree } in
-    let noted : IsTrue a.history.told → IsNoted an_answer.Taken a.history b.history =
-    λ told. noted_taken a.history b.history c.in-Ok-true.field-0 c.in-Ok-true.field-0-test (c.in-Ok-true.ensures.noted told) in
-    let taken : IsTrue a.history.told → TakenAt a.history d.history b.history.last x.history.last =
-    λ told.
-    taken_by a.history b.history x.history d.history c.lock.ensures.kept.past c.change_locked-done.ensures.kept.past c.unlock-freed.ensures.kept.past (noted told) c.change_locked-done.ensures.uncalled c.unlock-freed.result
-    (c.unlock-freed.ensures.noted (c.change_locked-done.ensures.kept.past.told ∙ c.lock.ensures.kept.past.told ∙ told)) in
-    elim c.change_locked-done.ensures.behind [
-      | inl same ↦ inl same
-      | inr read ↦ inr (read_some_wide a b x d c.lock.ensures.waits c.unlock-freed.ensures.waits c.lock.ensures.kept c.change_locked-done.ensures.kept c.unlock-freed.ensures.kept taken c.change_locked-done.ensures.lock read)
-    ]
 
 pub returns-in-Ok-true-clause-copy : goal.returns-in-Ok-true-clause-copy
 returns-in-Ok-true-clause-copy g c =

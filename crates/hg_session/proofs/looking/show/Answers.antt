@@ -16,8 +16,8 @@ returns-in_err-walked-clause-shows g c =
     } in
     let t = table c.args.mixed.now in
     let fault = c.in_err-walked.field-0.0 in
-    let walks = walks_as looked c.args.flags c.wanted.result t (Err fault) c.wanted.ensures (walks_err looked c.wanted.result t c.walk.ensures.passes c.walk.ensures.passes_shelf c.walk.ensures.asked c.walk.ensures.asked_store fault
-    (cause_of looked c.wanted.result t fault c.in_err-walked.ensures.behind c.in_err-walked.ensures.cause.rose c.in_err-walked.ensures.cause_shelf.rose c.in_err-walked.ensures.oversize c.in_err-walked.ensures.met) c.in_err-walked.ensures.cause.stayed) in
+    let walks = walks_as looked c.args.flags c.wanted.result t (Err fault) c.wanted.ensures (walks_err looked c.wanted.result t c.walk.ensures.passes c.walk.ensures.passes_shelf c.walk.ensures.asked c.walk.ensures.asked_store c.walk.ensures.reads fault
+    (cause_of looked c.wanted.result t fault c.in_err-walked.ensures.behind c.in_err-walked.ensures.cause.rose c.in_err-walked.ensures.cause_shelf.rose c.in_err-walked.ensures.oversize c.in_err-walked.ensures.met c.in_err-walked.ensures.first) c.in_err-walked.ensures.cause.stayed) in
     rw (p.1, p.2) (met_walking c.args.flags looked t _ _ fault walks (record { bytes = refl; count = refl }) (record { bytes = refl; count = refl }))
 
 pub returns-in_err-text-clause-shows : goal.returns-in_err-text-clause-shows
@@ -29,7 +29,7 @@ returns-in_err-text-clause-shows g c =
       oversize = record { before = g.G.Regexps.oversize c.args.regexps.now; after = g.G.Regexps.oversize c.walk.new.regexps };
     } in
     let t = table c.args.mixed.now in
-    let walks = walks_as looked c.args.flags c.wanted.result t (Ok c.in_ok-walked.walked) c.wanted.ensures (walks_ok looked c.wanted.result t c.walk.ensures.passes c.walk.ensures.passes_shelf c.walk.ensures.asked c.walk.ensures.asked_store
+    let walks = walks_as looked c.args.flags c.wanted.result t (Ok c.in_ok-walked.walked) c.wanted.ensures (walks_ok looked c.wanted.result t c.walk.ensures.passes c.walk.ensures.passes_shelf c.walk.ensures.asked c.walk.ensures.asked_store c.walk.ensures.reads
     c.in_ok-walked.walked c.in_ok-walked.ensures.still c.in_ok-walked.ensures.warns c.in_ok-walked.ensures.served c.in_ok-walked.ensures.asked_own c.in_ok-walked.ensures.cause.quiet c.in_ok-walked.ensures.cause_shelf.quiet c.in_ok-walked.ensures.oversize
     (record { needed = c.in_ok-walked.ensures.needed; noted = c.in_ok-walked.ensures.noted; earned = c.in_ok-walked.ensures.earned }) c.in_ok-walked.ensures.recorded
     (λ wants. noted_at looked c.wanted.result t c.in_ok-walked.walked.notes c.walk.ensures.passes_shelf (c.in_ok-walked.ensures.noted_by wants))) in
@@ -44,7 +44,7 @@ returns-in_err-warnings-clause-shows g c =
       oversize = record { before = g.G.Regexps.oversize c.args.regexps.now; after = g.G.Regexps.oversize c.walk.new.regexps };
     } in
     let t = table c.args.mixed.now in
-    let walks = walks_as looked c.args.flags c.wanted.result t (Ok c.in_ok-walked.walked) c.wanted.ensures (walks_ok looked c.wanted.result t c.walk.ensures.passes c.walk.ensures.passes_shelf c.walk.ensures.asked c.walk.ensures.asked_store
+    let walks = walks_as looked c.args.flags c.wanted.result t (Ok c.in_ok-walked.walked) c.wanted.ensures (walks_ok looked c.wanted.result t c.walk.ensures.passes c.walk.ensures.passes_shelf c.walk.ensures.asked c.walk.ensures.asked_store c.walk.ensures.reads
     c.in_ok-walked.walked c.in_ok-walked.ensures.still c.in_ok-walked.ensures.warns c.in_ok-walked.ensures.served c.in_ok-walked.ensures.asked_own c.in_ok-walked.ensures.cause.quiet c.in_ok-walked.ensures.cause_shelf.quiet c.in_ok-walked.ensures.oversize
     (record { needed = c.in_ok-walked.ensures.needed; noted = c.in_ok-walked.ensures.noted; earned = c.in_ok-walked.ensures.earned }) c.in_ok-walked.ensures.recorded
     (λ wants. noted_at looked c.wanted.result t c.in_ok-walked.walked.notes c.walk.ensures.passes_shelf (c.in_ok-walked.ensures.noted_by wants))) in
@@ -58,7 +58,7 @@ returns-in-Err-clause-shows g c =
       oversize = record { before = g.G.Regexps.oversize c.args.regexps.now; after = g.G.Regexps.oversize c.walk.new.regexps };
     } in
     let t = table c.args.mixed.now in
-    let walks = walks_as looked c.args.flags c.wanted.result t (Ok c.in_ok-walked.walked) c.wanted.ensures (walks_ok looked c.wanted.result t c.walk.ensures.passes c.walk.ensures.passes_shelf c.walk.ensures.asked c.walk.ensures.asked_store
+    let walks = walks_as looked c.args.flags c.wanted.result t (Ok c.in_ok-walked.walked) c.wanted.ensures (walks_ok looked c.wanted.result t c.walk.ensures.passes c.walk.ensures.passes_shelf c.walk.ensures.asked c.walk.ensures.asked_store c.walk.ensures.reads
     c.in_ok-walked.walked c.in_ok-walked.ensures.still c.in_ok-walked.ensures.warns c.in_ok-walked.ensures.served c.in_ok-walked.ensures.asked_own c.in_ok-walked.ensures.cause.quiet c.in_ok-walked.ensures.cause_shelf.quiet c.in_ok-walked.ensures.oversize
     (record { needed = c.in_ok-walked.ensures.needed; noted = c.in_ok-walked.ensures.noted; earned = c.in_ok-walked.ensures.earned }) c.in_ok-walked.ensures.recorded
     (λ wants. noted_at looked c.wanted.result t c.in_ok-walked.walked.notes c.walk.ensures.passes_shelf (c.in_ok-walked.ensures.noted_by wants))) in
@@ -74,7 +74,7 @@ returns-in-Err-put_all-clause-shows g c =
       oversize = record { before = g.G.Regexps.oversize c.args.regexps.now; after = g.G.Regexps.oversize c.walk.new.regexps };
     } in
     let t = table c.args.mixed.now in
-    let walks = walks_as looked c.args.flags c.wanted.result t (Ok c.in_ok-walked.walked) c.wanted.ensures (walks_ok looked c.wanted.result t c.walk.ensures.passes c.walk.ensures.passes_shelf c.walk.ensures.asked c.walk.ensures.asked_store
+    let walks = walks_as looked c.args.flags c.wanted.result t (Ok c.in_ok-walked.walked) c.wanted.ensures (walks_ok looked c.wanted.result t c.walk.ensures.passes c.walk.ensures.passes_shelf c.walk.ensures.asked c.walk.ensures.asked_store c.walk.ensures.reads
     c.in_ok-walked.walked c.in_ok-walked.ensures.still c.in_ok-walked.ensures.warns c.in_ok-walked.ensures.served c.in_ok-walked.ensures.asked_own c.in_ok-walked.ensures.cause.quiet c.in_ok-walked.ensures.cause_shelf.quiet c.in_ok-walked.ensures.oversize
     (record { needed = c.in_ok-walked.ensures.needed; noted = c.in_ok-walked.ensures.noted; earned = c.in_ok-walked.ensures.earned }) c.in_ok-walked.ensures.recorded
     (λ wants. noted_at looked c.wanted.result t c.in_ok-walked.walked.notes c.walk.ensures.passes_shelf (c.in_ok-walked.ensures.noted_by wants))) in
@@ -90,7 +90,7 @@ returns-in-Ok-put_all-clause-shows g c =
       oversize = record { before = g.G.Regexps.oversize c.args.regexps.now; after = g.G.Regexps.oversize c.walk.new.regexps };
     } in
     let t = table c.args.mixed.now in
-    let walks = walks_as looked c.args.flags c.wanted.result t (Ok c.in_ok-walked.walked) c.wanted.ensures (walks_ok looked c.wanted.result t c.walk.ensures.passes c.walk.ensures.passes_shelf c.walk.ensures.asked c.walk.ensures.asked_store
+    let walks = walks_as looked c.args.flags c.wanted.result t (Ok c.in_ok-walked.walked) c.wanted.ensures (walks_ok looked c.wanted.result t c.walk.ensures.passes c.walk.ensures.passes_shelf c.walk.ensures.asked c.walk.ensures.asked_store c.walk.ensures.reads
     c.in_ok-walked.walked c.in_ok-walked.ensures.still c.in_ok-walked.ensures.warns c.in_ok-walked.ensures.served c.in_ok-walked.ensures.asked_own c.in_ok-walked.ensures.cause.quiet c.in_ok-walked.ensures.cause_shelf.quiet c.in_ok-walked.ensures.oversize
     (record { needed = c.in_ok-walked.ensures.needed; noted = c.in_ok-walked.ensures.noted; earned = c.in_ok-walked.ensures.earned }) c.in_ok-walked.ensures.recorded
     (λ wants. noted_at looked c.wanted.result t c.in_ok-walked.walked.notes c.walk.ensures.passes_shelf (c.in_ok-walked.ensures.noted_by wants))) in

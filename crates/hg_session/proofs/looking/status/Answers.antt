@@ -11,12 +11,12 @@ use Rattle.hg_shelf.specs.Images.{course}
 use Rattle.hg_tree.proofs.Spans.{passes_same}
 use Rattle.hg_session.proofs.Locked.{unwritten_then}
 use Rattle.hg_session.proofs.NotesKept.{needed_are_news}
-use Rattle.hg_session.proofs.Readings.{cause_still, loaded_table, met_reading, met_refused, opened_as, opened_nodes, same_as}
+use Rattle.hg_session.proofs.Readings.{cause_still, loaded_since, loaded_table, met_reading, met_refused, opened_as, opened_nodes, same_as}
 use Rattle.hg_session.proofs.Saves.{saves_earlier}
 use Rattle.hg_session.proofs.Stages.{does_saved, does_unread, does_unsaved, does_unshown, needed_can, noted_as, save_met}
 use Rattle.hg_session.specs.Anew.{IsOpened}
 use Rattle.hg_session.specs.Call.{Count, IsLeftAlone, Looked, Saved}
-use Rattle.hg_session.specs.Saving.{IsOpenedSince, of_save}
+use Rattle.hg_session.specs.Saving.{IsOpenedSince, IsTryOf, of_save}
 use Rattle.hg_session.specs.Status.{OnlyAsksBelow, listed_to}
 use Rattle.hg_session.proofs.looking.status.Goals as goal
 
@@ -49,7 +49,7 @@ returns-in_err-mixed g c =
     let unsaved : OnlyAsksBelow saved locks = record { passes = c.read.ensures.passes; kept = c.read.ensures.kept; held = c.read.ensures.locks } in
     let alone : IsLeftAlone looked.tree = record { history = refl; count = refl } in
     let fault = c.in_err-mixed.field-0.0 in
-    let docket = docket_of c.in_ok-loaded.loaded.docket.items in
+    let docket = docket_of c.in_ok-loaded.loaded.shown.items in
     let nodes = data_reading docket c.in_ok-loaded.loaded.nodes.items in
     let found = opened_as looked.shelf.old looked.shelf.new c.in_ok-loaded.loaded (Err fault) c.in_ok-loaded.loaded.whole.sound c.in_err-mixed.ensures c.in_ok-loaded.ensures.found in
     rw (p.1, p.2) (does_unread c.args.flags looked saved locks _ _ alone (passes_same looked.tree.old) c.read.ensures.passes unsaved fault
@@ -96,9 +96,7 @@ returns-in_err-save_notes g c =
     let start = g.S.Shelf.history c.args.shelf.now in
     let behind = g.S.Shelf.history c.read.new.shelf in
     let end = g.S.Shelf.history c.show.new.shelf in
-    let found = opened_as start behind c.in_ok-loaded.loaded (Ok c.in_ok-mixed.mixed) c.in_ok-loaded.loaded.whole.sound c.in_ok-mixed.ensures c.in_ok-loaded.ensures.found in
     let t = table c.in_ok-mixed.mixed in
-    let loaded = loaded_table (listed_to end looked).shelf behind c.in_ok-loaded.loaded c.in_ok-mixed.mixed c.show.ensures.only.passes.past found (c.in_ok-mixed.ensures.0, c.in_ok-mixed.ensures.2) in
     let only = passes_trans start behind end c.read.ensures.passes c.show.ensures.only.passes in
     let first = goes_trans saved.old (course behind (g.S.Shelf.images c.read.new.shelf)) (course end (g.S.Shelf.images c.show.new.shelf)) c.read.ensures.kept c.show.ensures.only.kept in
     let since : IsOpenedSince start end c.in_ok-loaded.loaded t c.in_ok-mixed.mixed = record {
@@ -112,10 +110,11 @@ returns-in_err-save_notes g c =
       lent = c.in_ok-mixed.ensures.2.lent;
       placed = c.in_ok-mixed.ensures.2.placed;
     } in
+    let loaded = loaded_since start end c.in_ok-loaded.loaded t c.in_ok-mixed.mixed c.in_ok-loaded.loaded.whole.sound since in
     let noted = noted_as looked.tree t c.in_ok-notes.ensures.shows.notes c.in_ok-notes.notes c.in_ok-notes.ensures.shows.answered c.in_ok-notes.ensures.shows.noted.needed c.in_ok-notes.ensures.shows.noted.noted in
     let news = needed_are_news t _ _ c.in_ok-notes.notes noted.0 noted.1 in
     let quiet = c.in_ok-notes.ensures.shows.calm.shelf ∙ c.in_ok-loaded.ensures.cause.quiet in
-    let saving = saves_earlier saved.old (course end (g.S.Shelf.images c.show.new.shelf)) saved.new only first c.save_notes.ensures.kept t c.in_ok-notes.notes looked.shelf.before (g.S.Shelf.faults c.show.new.shelf) looked.shelf.after
+    let saving = saves_earlier saved.old (course end (g.S.Shelf.images c.show.new.shelf)) saved.new only first c.save_notes.ensures.kept (IsTryOf start end c.in_ok-loaded.loaded t c.in_ok-mixed.mixed since) t c.in_ok-notes.notes looked.shelf.before (g.S.Shelf.faults c.show.new.shelf) looked.shelf.after
     locks.before (g.S.Shelf.held c.show.new.shelf) locks.after quiet (c.show.ensures.only.held ∙ c.read.ensures.locks) _ (c.in_err-save_notes.ensures.saves start t since news) in
     let fault = c.in_err-save_notes.field-0.0 in
     rw (p.1, p.2) (does_unsaved c.args.flags looked saved locks _ _ behind end (g.S.Shelf.faults c.read.new.shelf) (g.S.Shelf.faults c.show.new.shelf) t c.read.ensures.passes c.show.ensures.only.passes
@@ -137,9 +136,7 @@ returns g c =
     let start = g.S.Shelf.history c.args.shelf.now in
     let behind = g.S.Shelf.history c.read.new.shelf in
     let end = g.S.Shelf.history c.show.new.shelf in
-    let found = opened_as start behind c.in_ok-loaded.loaded (Ok c.in_ok-mixed.mixed) c.in_ok-loaded.loaded.whole.sound c.in_ok-mixed.ensures c.in_ok-loaded.ensures.found in
     let t = table c.in_ok-mixed.mixed in
-    let loaded = loaded_table (listed_to end looked).shelf behind c.in_ok-loaded.loaded c.in_ok-mixed.mixed c.show.ensures.only.passes.past found (c.in_ok-mixed.ensures.0, c.in_ok-mixed.ensures.2) in
     let only = passes_trans start behind end c.read.ensures.passes c.show.ensures.only.passes in
     let first = goes_trans saved.old (course behind (g.S.Shelf.images c.read.new.shelf)) (course end (g.S.Shelf.images c.show.new.shelf)) c.read.ensures.kept c.show.ensures.only.kept in
     let since : IsOpenedSince start end c.in_ok-loaded.loaded t c.in_ok-mixed.mixed = record {
@@ -153,10 +150,11 @@ returns g c =
       lent = c.in_ok-mixed.ensures.2.lent;
       placed = c.in_ok-mixed.ensures.2.placed;
     } in
+    let loaded = loaded_since start end c.in_ok-loaded.loaded t c.in_ok-mixed.mixed c.in_ok-loaded.loaded.whole.sound since in
     let noted = noted_as looked.tree t c.in_ok-notes.ensures.shows.notes c.in_ok-notes.notes c.in_ok-notes.ensures.shows.answered c.in_ok-notes.ensures.shows.noted.needed c.in_ok-notes.ensures.shows.noted.noted in
     let news = needed_are_news t _ _ c.in_ok-notes.notes noted.0 noted.1 in
     let quiet = c.in_ok-notes.ensures.shows.calm.shelf ∙ c.in_ok-loaded.ensures.cause.quiet in
-    let saving = saves_earlier saved.old (course end (g.S.Shelf.images c.show.new.shelf)) saved.new only first c.save_notes.ensures.kept t c.in_ok-notes.notes looked.shelf.before (g.S.Shelf.faults c.show.new.shelf) looked.shelf.after
+    let saving = saves_earlier saved.old (course end (g.S.Shelf.images c.show.new.shelf)) saved.new only first c.save_notes.ensures.kept (IsTryOf start end c.in_ok-loaded.loaded t c.in_ok-mixed.mixed since) t c.in_ok-notes.notes looked.shelf.before (g.S.Shelf.faults c.show.new.shelf) looked.shelf.after
     locks.before (g.S.Shelf.held c.show.new.shelf) locks.after quiet (c.show.ensures.only.held ∙ c.read.ensures.locks) _ (c.in_ok-save_notes.ensures.saves start t since news) in
     does_saved c.args.flags looked saved locks _ _ behind end (g.S.Shelf.faults c.read.new.shelf) (g.S.Shelf.faults c.show.new.shelf) t c.read.ensures.passes c.show.ensures.only.passes
     c.save_notes.ensures.kept.past loaded c.read.ensures.asked only c.in_ok-notes.notes c.in_ok-notes.ensures.shows tt saving c.save_notes.ensures.asked (c.in_ok-save_notes.ensures.cause.quiet ∙ quiet)

@@ -13,7 +13,7 @@ returns-in_err-image c =
 
 pub returns : goal.returns
 returns c =
-    let few = few_bytes c.in_ok-image.image (docket_of c.args.loaded.now.docket.items) c.args.loaded.now.nodes.items c.in_ok-image.ensures.docket c.in_ok-image.ensures.bytes c.args.loaded.now.whole.most in (
+    let few = few_bytes c.in_ok-image.image (docket_of c.args.loaded.now.shown.items) c.args.loaded.now.nodes.items c.in_ok-image.ensures.docket c.in_ok-image.ensures.bytes c.args.loaded.now.whole.most in (
       table_in c.in_ok-image.image,
       sym c.in_ok-image.ensures.read,
       record {
@@ -23,6 +23,6 @@ returns c =
         image = image_same c.in_ok-image.image c.open-mixed.result c.open-mixed.ensures.docket c.open-mixed.ensures.bytes few c.open-mixed.ensures.table;
         lent = lists_same c.in_ok-image.image c.open-mixed.result c.open-mixed.ensures.docket c.open-mixed.ensures.bytes few c.open-mixed.ensures.lent.lists;
         placed = places_same c.in_ok-image.image c.open-mixed.result c.open-mixed.ensures.docket c.open-mixed.ensures.bytes few c.open-mixed.ensures.places;
-        nodes = c.open-mixed.ensures.bytes ∙ c.in_ok-image.ensures.bytes ∙ take_all (docket_of c.args.loaded.now.docket.items).used c.args.loaded.now.nodes.items c.args.loaded.now.whole.most;
+        nodes = c.open-mixed.ensures.bytes ∙ c.in_ok-image.ensures.bytes ∙ take_all (docket_of c.args.loaded.now.shown.items).used c.args.loaded.now.nodes.items c.args.loaded.now.whole.most;
       },
     )

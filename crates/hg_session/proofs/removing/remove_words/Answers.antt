@@ -9,7 +9,8 @@ use Rattle.hg_ops.specs.declared.refusal.Refusal.{Refusal}
 use Rattle.hg_session.specs.Acts.{IsActed, TakesAway, refused_line, span_of}
 use Rattle.hg_session.proofs.KeptLists.{keeps_lent, keeps_none, keeps_on, moves_remove}
 use Rattle.hg_session.proofs.KeptTexts.{forgotten_texts, goes_forgotten, texts_none, texts_on}
-use Rattle.hg_session.proofs.TakenWords.{asks_kept, asks_needed, front_more, front_none, needed_more, so_far_wide, split_more, split_word, stops_at, stops_behind, store_cause, takes_extends, takes_longer, takes_more, takes_none_yet, tree_cause, tree_failed}
+use Rattle.hg_ops.proofs.AskingStore.{keeps_store}
+use Rattle.hg_session.proofs.TakenWords.{asks_needed, front_more, front_none, needed_more, so_far_wide, split_more, split_word, stops_at, stops_behind, store_cause, takes_extends, takes_longer, takes_more, takes_none_yet, tree_cause, tree_failed}
 use Rattle.hg_session.proofs.SoFar.{goes_on, goes_on_at, image_trans, none_yet}
 use Rattle.hg_shelf.proofs.Histories.{extends_same, passes_trans}
 use Rattle.hg_shelf.proofs.Scenes.{goes_same, goes_trans}
@@ -185,7 +186,7 @@ returns-in-Err-clause-asked g c = λ told.
     (needed_more c.args.after c.args.words.now (table c.args.mixed.now) start mid at c.loop-i.invariant.takes.past (takes_extends _ word mid at c.remove.ensures.takes) (g.T.Tree.faults c.args.tree.now) (g.T.Tree.faults c.loop-i.tree) (g.T.Tree.faults c.remove.new.tree)
     word c.loop-i.i is (table c.loop-i.mixed) c.loop-i.invariant.front first between last c.loop-i.invariant.needed
     (elim c.remove.ensures.needed [ inl same ↦ inl (ap (λ s. (g.S.Shelf.history s).asked) same) | inr need ↦ inr need ]))
-    (asks_kept _ c.remove.new.parent (c.in_ok-refused.ensures.goes (span_of (table c.args.mixed.now) first between) c.loop-i.invariant.keeps) told)
+    (keeps_store _ c.remove.new.parent (c.in_ok-refused.ensures.goes (span_of (table c.args.mixed.now) first between) c.loop-i.invariant.keeps) told)
 
 pub returns-in-Err-clause-stops : goal.returns-in-Err-clause-stops
 returns-in-Err-clause-stops g c = λ unset.
@@ -230,4 +231,4 @@ returns-clause-asked g c = λ told.
     let first = g.S.Shelf.history c.args.shelf.now in
     let last = g.S.Shelf.history c.loop-i.shelf in
     let t = table c.args.mixed.now in
-    asks_needed first last (AsksStore (span_of t first last)) c.loop-i.invariant.needed (asks_kept (span_of t first last) c.loop-i.parent c.loop-i.invariant.keeps told)
+    asks_needed first last (AsksStore (span_of t first last)) c.loop-i.invariant.needed (keeps_store (span_of t first last) c.loop-i.parent c.loop-i.invariant.keeps told)

@@ -1,12 +1,10 @@
 -- New parents: the manifests of both, and then the table.
-use Rattle.std.proofs.Common.{refl, ◌∙◌}
-use Rattle.hg_manifest.specs.Load.{asks_of}
+use Rattle.std.proofs.Common.{Ok, Err, refl, ◌∙◌}
 use Rattle.std.proofs.lemmas.Result.{err_from_is_err_and}
 use Rattle.hg_session.proofs.KeptLists.{parents_keep}
 use Rattle.hg_session.proofs.KeptTexts.{parents_texts}
-use Rattle.hg_session.proofs.ParentLoads.{cause_as, front_behind, not_tree, stops_first, stops_second}
+use Rattle.hg_session.proofs.ParentLoads.{asks_first, asks_second, cause_as, not_tree, stops_first, stops_second}
 use Rattle.hg_session.proofs.SoFar.{unmarked}
-use Rattle.hg_shelf.proofs.Asks.{front_all, front_longer}
 use Rattle.hg_shelf.proofs.Histories.{extends_same, passes_trans}
 use Rattle.hg_shelf.proofs.Scenes.{goes_trans}
 use Rattle.hg_session.proofs.reparenting.reparent.Goals as goal
@@ -19,7 +17,8 @@ returns-in_err-m1-clause-stops g c =
     (record { old = g.S.Shelf.history c.args.shelf.now; new = g.S.Shelf.history c.rows_of.new.shelf; before = extends_same (g.S.Shelf.history c.args.shelf.now); behind = extends_same (g.S.Shelf.history c.rows_of.new.shelf); answers = c.in_err-m1.ensures.answers }))
 
 pub returns-in_err-m1-clause-asked : goal.returns-in_err-m1-clause-asked
-returns-in_err-m1-clause-asked g c = λ told. front_longer _ _ _ _ (c.in_err-m1.ensures.asked told)
+returns-in_err-m1-clause-asked g c = λ told.
+    asks_first c.args.p1 c.args.p2 (g.S.Shelf.history c.args.shelf.now) (g.S.Shelf.history c.rows_of.new.shelf) c.in_err-m1.field-0.0 c.in_err-m1.ensures.passes (c.in_err-m1.ensures.asked told)
 
 pub returns-in_err-m1-clause-cause : goal.returns-in_err-m1-clause-cause
 returns-in_err-m1-clause-cause g c =
@@ -41,7 +40,9 @@ returns-in_err-m2-clause-stops g c =
     (record { old = g.S.Shelf.history c.rows_of.new.shelf; new = g.S.Shelf.history c.rows_of-2.new.shelf; before = c.in_ok-m1.ensures.passes.past; behind = extends_same (g.S.Shelf.history c.rows_of-2.new.shelf); answers = c.in_err-m2.ensures.answers }))
 
 pub returns-in_err-m2-clause-asked : goal.returns-in_err-m2-clause-asked
-returns-in_err-m2-clause-asked g c = λ told. front_behind _ _ _ _ _ (c.in_ok-m1.ensures.asked told) (c.in_err-m2.ensures.asked (c.in_ok-m1.ensures.passes.past.told ∙ told))
+returns-in_err-m2-clause-asked g c = λ told.
+    asks_second c.args.p1 c.args.p2 (g.S.Shelf.history c.args.shelf.now) (g.S.Shelf.history c.rows_of.new.shelf) (g.S.Shelf.history c.rows_of-2.new.shelf) c.in_ok-m1.m1 (Err c.in_err-m2.field-0.0)
+    c.in_ok-m1.ensures.passes c.in_err-m2.ensures.passes (c.in_ok-m1.ensures.asked told) (c.in_err-m2.ensures.asked (c.in_ok-m1.ensures.passes.past.told ∙ told))
 
 pub returns-in_err-m2-clause-cause : goal.returns-in_err-m2-clause-cause
 returns-in_err-m2-clause-cause g c =
@@ -60,8 +61,9 @@ pub returns-in_err-m2-clause-kept : goal.returns-in_err-m2-clause-kept
 returns-in_err-m2-clause-kept g c = goes_trans _ _ _ c.in_ok-m1.ensures.kept c.in_err-m2.ensures.kept
 
 pub returns-in_err-set_rows-clause-asked : goal.returns-in_err-set_rows-clause-asked
-returns-in_err-set_rows-clause-asked g c = λ told. front_behind (asks_of c.args.p1) (asks_of c.args.p2) (g.S.Shelf.history c.args.shelf.now) (g.S.Shelf.history c.rows_of.new.shelf) (g.S.Shelf.history c.rows_of-2.new.shelf) (c.in_ok-m1.ensures.asked told)
-    (front_all (asks_of c.args.p2) (g.S.Shelf.history c.rows_of.new.shelf) (g.S.Shelf.history c.rows_of-2.new.shelf) (c.in_ok-m2.ensures.asked (c.in_ok-m1.ensures.passes.past.told ∙ told)))
+returns-in_err-set_rows-clause-asked g c = λ told.
+    asks_second c.args.p1 c.args.p2 (g.S.Shelf.history c.args.shelf.now) (g.S.Shelf.history c.rows_of.new.shelf) (g.S.Shelf.history c.rows_of-2.new.shelf) c.in_ok-m1.m1 (Ok c.in_ok-m2.m2)
+    c.in_ok-m1.ensures.passes c.in_ok-m2.ensures.passes (c.in_ok-m1.ensures.asked told) (c.in_ok-m2.ensures.asked (c.in_ok-m1.ensures.passes.past.told ∙ told))
 
 pub returns-in_err-set_rows-clause-passes : goal.returns-in_err-set_rows-clause-passes
 returns-in_err-set_rows-clause-passes g c = passes_trans _ _ _ c.in_ok-m1.ensures.passes c.in_ok-m2.ensures.passes
@@ -87,8 +89,9 @@ returns-clause-lent g c =
     (parents_texts c.args.mixed.now c.set_rows.new.mixed c.in_ok-set_rows.ensures.parents.sources c.in_ok-set_rows.ensures.places)
 
 pub returns-clause-asked : goal.returns-clause-asked
-returns-clause-asked g c = λ told. front_behind (asks_of c.args.p1) (asks_of c.args.p2) (g.S.Shelf.history c.args.shelf.now) (g.S.Shelf.history c.rows_of.new.shelf) (g.S.Shelf.history c.rows_of-2.new.shelf) (c.in_ok-m1.ensures.asked told)
-    (front_all (asks_of c.args.p2) (g.S.Shelf.history c.rows_of.new.shelf) (g.S.Shelf.history c.rows_of-2.new.shelf) (c.in_ok-m2.ensures.asked (c.in_ok-m1.ensures.passes.past.told ∙ told)))
+returns-clause-asked g c = λ told.
+    asks_second c.args.p1 c.args.p2 (g.S.Shelf.history c.args.shelf.now) (g.S.Shelf.history c.rows_of.new.shelf) (g.S.Shelf.history c.rows_of-2.new.shelf) c.in_ok-m1.m1 (Ok c.in_ok-m2.m2)
+    c.in_ok-m1.ensures.passes c.in_ok-m2.ensures.passes (c.in_ok-m1.ensures.asked told) (c.in_ok-m2.ensures.asked (c.in_ok-m1.ensures.passes.past.told ∙ told))
 
 pub returns-clause-passes : goal.returns-clause-passes
 returns-clause-passes g c = passes_trans _ _ _ c.in_ok-m1.ensures.passes c.in_ok-m2.ensures.passes

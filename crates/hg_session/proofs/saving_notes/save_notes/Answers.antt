@@ -5,7 +5,7 @@ use Rattle.hg_session.proofs.Locks.{not_taken_by, noted_taken, refused_by, taken
 use Rattle.hg_session.proofs.SavedNotes.{asked_none, once_asked, once_cause, once_either, unwritten_locked, saves_blank, saves_locked, saves_not_taken, saves_refused}
 use Rattle.hg_session.specs.Change.{IsUnwritten}
 use Rattle.hg_session.specs.Locks.{TakenAt}
-use Rattle.hg_session.specs.Saving.{IsOpenedSince}
+use Rattle.hg_session.specs.Saving.{IsOpenedSince, IsTryOf}
 use Rattle.hg_shelf.proofs.Histories.{extends_trans}
 use Rattle.hg_shelf.proofs.Scenes.{goes_trans}
 use Rattle.hg_shelf.specs.Images.{Course, course}
@@ -15,14 +15,14 @@ use Rattle.hg_session.proofs.saving_notes.save_notes.Goals as goal
 
 pub returns-then-is_empty-clause-saves : goal.returns-then-is_empty-clause-saves
 returns-then-is_empty-clause-saves g c start recorded since news =
-    saves_blank start (course (g.S.Shelf.history c.args.shelf.now) (g.S.Shelf.images c.args.shelf.now)) (g.S.Shelf.faults c.args.shelf.now) (g.S.Shelf.held c.args.shelf.now) recorded c.args.notes
+    saves_blank (IsTryOf start (g.S.Shelf.history c.args.shelf.now) c.args.loaded.now recorded c.args.mixed.now since) start (course (g.S.Shelf.history c.args.shelf.now) (g.S.Shelf.images c.args.shelf.now)) (g.S.Shelf.faults c.args.shelf.now) (g.S.Shelf.held c.args.shelf.now) recorded c.args.notes
     (c.is_empty.ensures.0 c.if-is_empty.true)
 
 pub returns-in-Err-clause-saves : goal.returns-in-Err-clause-saves
 returns-in-Err-clause-saves g c start recorded since news =
     let a : Course = course (g.S.Shelf.history c.args.shelf.now) (g.S.Shelf.images c.args.shelf.now) in
     let b : Course = course (g.S.Shelf.history c.lock.new.self) (g.S.Shelf.images c.lock.new.self) in
-    saves_not_taken start a b c.lock.ensures.waits (g.S.Shelf.faults c.args.shelf.now) (g.S.Shelf.faults c.lock.new.self)
+    saves_not_taken (IsTryOf start (g.S.Shelf.history c.args.shelf.now) c.args.loaded.now recorded c.args.mixed.now since) start a b c.lock.ensures.waits (g.S.Shelf.faults c.args.shelf.now) (g.S.Shelf.faults c.lock.new.self)
     (record { before = g.S.Shelf.held c.args.shelf.now; after = g.S.Shelf.held c.lock.new.self }) recorded c.args.notes
     (λ blank. true≢false (sym (c.is_empty.ensures.1 blank) ∙ c.if-is_empty.false)) c.in-Err.ensures.locks.0
     (λ told. not_taken_by a.history b.history (c.in-Err.ensures.noted told)) c.in-Err.ensures.locks.1 (c.in-Err.ensures.cause.rose tt)
@@ -32,7 +32,7 @@ returns-in-Ok-false-clause-saves g c start recorded since news =
     let a : Course = course (g.S.Shelf.history c.args.shelf.now) (g.S.Shelf.images c.args.shelf.now) in
     let b : Course = course (g.S.Shelf.history c.lock.new.self) (g.S.Shelf.images c.lock.new.self) in
     let was = refused_same _ _ _ _ c.in-Ok-false.field-0 c.in-Ok-false.field-0-test c.in-Ok-false.ensures.locks in
-    saves_refused start a b c.lock.ensures.waits (g.S.Shelf.faults c.args.shelf.now) (g.S.Shelf.faults c.lock.new.self)
+    saves_refused (IsTryOf start (g.S.Shelf.history c.args.shelf.now) c.args.loaded.now recorded c.args.mixed.now since) start a b c.lock.ensures.waits (g.S.Shelf.faults c.args.shelf.now) (g.S.Shelf.faults c.lock.new.self)
     (record { before = g.S.Shelf.held c.args.shelf.now; after = g.S.Shelf.held c.lock.new.self }) recorded c.args.notes
     (λ blank. true≢false (sym (c.is_empty.ensures.1 blank) ∙ c.if-is_empty.false)) was.0
     (λ told. refused_by a.history b.history c.in-Ok-false.field-0 c.in-Ok-false.field-0-test (c.in-Ok-false.ensures.noted told)) was.1
@@ -62,7 +62,7 @@ returns-in-Ok-true-clause-saves g c start recorded since news =
       placed = since.placed;
     } in
     rw c.first_fault.ensures
-    (saves_locked start recorded c.args.notes a b x d c.lock.ensures.waits c.unlock-freed.ensures.waits c.lock.ensures.kept c.save_held-done.ensures.kept c.unlock-freed.ensures.kept noted c.save_held-done.ensures.uncalled taken
+    (saves_locked (IsTryOf start (g.S.Shelf.history c.args.shelf.now) c.args.loaded.now recorded c.args.mixed.now since) start recorded c.args.notes a b x d c.lock.ensures.waits c.unlock-freed.ensures.waits c.lock.ensures.kept c.save_held-done.ensures.kept c.unlock-freed.ensures.kept noted c.save_held-done.ensures.uncalled taken
     c.save_held-done.ensures.lock (g.S.Shelf.faults c.args.shelf.now) (g.S.Shelf.faults c.lock.new.self) (g.S.Shelf.faults c.save_held-done.new.shelf) (g.S.Shelf.faults c.unlock-freed.new.self)
     (record { before = g.S.Shelf.held c.args.shelf.now; after = g.S.Shelf.held c.unlock-freed.new.self }) (λ blank. true≢false (sym (c.is_empty.ensures.1 blank) ∙ c.if-is_empty.false))
     c.save_held-done.result c.unlock-freed.result c.in-Ok-true.ensures.cause.quiet

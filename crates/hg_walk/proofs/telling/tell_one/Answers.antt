@@ -1,10 +1,10 @@
 use Rattle.std.proofs.Common.{[], refl, sym}
 use Rattle.std.proofs.lemmas.List.{append-nil}
 use Rattle.std.proofs.lemmas.Result.{err_from_is_err_and}
-use Rattle.hg_shelf.specs.History as shelves
 use Rattle.hg_flat.specs.Parent.{WasAsked}
 use Rattle.hg_flat.proofs.Asks.{reads_none}
 use Rattle.hg_flat.proofs.Going.{goes_store}
+use Rattle.hg_flat.proofs.Needing.{reads_nothing}
 use Rattle.hg_walk.specs.Right.{AreRight}
 use Rattle.hg_walk.specs.Telling.{notes_of, tracked_row}
 use Rattle.hg_walk.specs.Walking.{asked_unvouched, rows_in, walk_status}
@@ -18,9 +18,9 @@ pub returns-in_default-clause-goes : goal.returns-in_default-clause-goes
 returns-in_default-clause-goes g c = λ t start begun come. come.goes
 
 pub returns-in_default-clause-row : goal.returns-in_default-clause-row
-returns-in_default-clause-row g c = λ t start begun come.
+returns-in_default-clause-row g c = λ t start begun store come.
     let old = g.T.Tree.history c.args.tree.now in
-    tells_bare c.args.wanted t (AreRight (rows_in t (shelves.now begun).files) t start old) old old begun (g.S.Shelf.history c.args.shelf.now) c.args.child.now c.args.rows.now.items c.in_default.is
+    tells_bare c.args.wanted t store (AreRight (rows_in t store) t start old) old old begun (g.S.Shelf.history c.args.shelf.now) c.args.child.now c.args.rows.now.items c.in_default.is
 
 pub returns-in_default-clause-noted : goal.returns-in_default-clause-noted
 returns-in_default-clause-noted g c =
@@ -42,6 +42,9 @@ returns-in_default-clause-asked g c = λ told t of.
 
 pub returns-in_err-told-clause-met : goal.returns-in_err-told-clause-met
 returns-in_err-told-clause-met g c = let p = err_from_is_err_and c.from_residual.result c.from_residual.ensures.1 in rw (p.1, p.2) c.in_err-told.ensures.met
+
+pub returns-in_err-told-clause-names : goal.returns-in_err-told-clause-names
+returns-in_err-told-clause-names g c = let p = err_from_is_err_and c.from_residual.result c.from_residual.ensures.1 in rw (p.1, p.2) c.in_err-told.ensures.names
 
 pub returns-in_err-told-clause-store : goal.returns-in_err-told-clause-store
 returns-in_err-told-clause-store g c = let p = err_from_is_err_and c.from_residual.result c.from_residual.ensures.1 in rw p.1 c.in_err-told.ensures.store
@@ -65,11 +68,30 @@ returns-in_err-note_seen-clause-store g c =
 -- ---- a child with an entry
 
 pub returns-clause-row : goal.returns-clause-row
-returns-clause-row g c = λ t start begun come.
+returns-clause-row g c = λ t start begun store come.
     let old = g.T.Tree.history c.args.tree.now in
     let new = g.T.Tree.history c.tell_tracked.new.tree in
-    tells_one c.args.wanted t (AreRight (rows_in t (shelves.now begun).files) t start new) old new begun (g.S.Shelf.history c.tell_tracked.new.shelf) c.args.child.now c.in-Some.entry c.in_ok-told.told.letter
-    c.args.rows.now.items c.put_wanted.new.rows.items c.in-Some.is (c.in_ok-told.ensures.found t start begun come) (c.in_ok-put_wanted.ensures (tracked_row c.args.child.now c.in-Some.entry) refl refl)
+    tells_one c.args.wanted t store (AreRight (rows_in t store) t start new) old new begun (g.S.Shelf.history c.tell_tracked.new.shelf) c.args.child.now c.in-Some.entry c.in_ok-told.told.letter
+    c.args.rows.now.items c.put_wanted.new.rows.items c.in-Some.is (c.in_ok-told.ensures.found t start begun store come) (c.in_ok-put_wanted.ensures (tracked_row c.args.child.now c.in-Some.entry) refl refl)
 
 pub returns-clause-noted : goal.returns-clause-noted
 returns-clause-noted g c = (notes_of c.args.child.now.path.text.now c.in_ok-told.told.seen, c.in_ok-note_seen.ensures, c.in_ok-told.ensures.noted)
+
+-- ---- what is read
+
+pub returns-in_default-clause-reads : goal.returns-in_default-clause-reads
+returns-in_default-clause-reads g c = λ t start begun come told.
+    let old = g.T.Tree.history c.args.tree.now in
+    reads_nothing (walk_status c.args.wanted t start old begun (g.S.Shelf.history c.args.shelf.now)) old c.args.child.now.path.text.now refl
+
+pub returns-in_err-told-clause-reads : goal.returns-in_err-told-clause-reads
+returns-in_err-told-clause-reads g c = c.tell_tracked.ensures.reads
+
+pub returns-in_err-put_wanted-clause-reads : goal.returns-in_err-put_wanted-clause-reads
+returns-in_err-put_wanted-clause-reads g c = c.tell_tracked.ensures.reads
+
+pub returns-in_err-note_seen-clause-reads : goal.returns-in_err-note_seen-clause-reads
+returns-in_err-note_seen-clause-reads g c = c.tell_tracked.ensures.reads
+
+pub returns-clause-reads : goal.returns-clause-reads
+returns-clause-reads g c = c.tell_tracked.ensures.reads

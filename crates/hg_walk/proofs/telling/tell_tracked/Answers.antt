@@ -1,6 +1,5 @@
 use Rattle.std.proofs.Common.{List, ℕ, [], ◌∷◌, None, Some, arith, refl, sym, ◌∙◌}
 use Rattle.std.proofs.lemmas.Result.{IfErr-weaker, IfOk-weaker, err_from_is_err_and, on_ok_weaker}
-use Rattle.hg_shelf.specs.History as shelves
 use Rattle.hg_shelf.proofs.Histories as shelf
 use Rattle.hg_tree.specs.History as trees
 use Rattle.hg_tree.proofs.Histories.{extends_same}
@@ -13,6 +12,7 @@ use Rattle.hg_flat.proofs.Asks.{asks_nothing, reads_none}
 use Rattle.hg_flat.proofs.Going.{goes_on, goes_store}
 use Rattle.hg_flat.proofs.Judging.{letter_by}
 use Rattle.hg_flat.proofs.Letters.{found_gone, found_removed, found_unwanted}
+use Rattle.hg_flat.proofs.Needing.{reads_after, reads_nothing}
 use Rattle.hg_walk.specs.Right.{AreRight}
 use Rattle.hg_walk.specs.Telling.{notes_of, tracked_row}
 use Rattle.hg_walk.specs.Walking.{asked_unvouched, rows_in, walk_status}
@@ -28,14 +28,14 @@ pub returns-then-not-entry-clause-goes : goal.returns-then-not-entry-clause-goes
 returns-then-not-entry-clause-goes g c = λ t start begun come. come.goes
 
 pub returns-then-not-entry-clause-found : goal.returns-then-not-entry-clause-found
-returns-then-not-entry-clause-found g c = λ t start begun come.
+returns-then-not-entry-clause-found g c = λ t start begun store come.
     let old = g.T.Tree.history c.args.tree.now in
     let files = g.S.Shelf.history c.args.shelf.now in
     let row = tracked_row c.args.child.now c.args.entry.now in
     let s = walk_status c.args.wanted t old old begun files in
-    letter_by s.asks (AreRight (rows_in t (shelves.now begun).files) t start old) (λ (p : List ℕ). IsLeftAsked s.asks s.id old old.last files begun.last p) (shelves.now begun).files s.id (trees.now old) c.args.wanted row
+    letter_by s.asks (AreRight (rows_in t store) t start old) (λ (p : List ℕ). IsLeftAsked store s.asks s.id old old.last files begun.last p) store s.id (trees.now old) c.args.wanted row
     (Some a_letter.R) (asked_row c.args.wanted t c.args.child.now c.args.entry.now come.of c.requires (trees.now old))
-    (found_removed (λ k. IsLeftAsked s.asks s.id old old.last files begun.last k.path) (shelves.now begun).files s.id (trees.now old) c.args.wanted row c.if-not-entry.true)
+    (found_removed (λ k. IsLeftAsked store s.asks s.id old old.last files begun.last k.path) store s.id (trees.now old) c.args.wanted row c.if-not-entry.true)
 
 pub returns-then-not-entry-clause-noted : goal.returns-then-not-entry-clause-noted
 returns-then-not-entry-clause-noted g c = λ t start begun come.
@@ -57,14 +57,14 @@ pub returns-then-not-wants_tracked-clause-goes : goal.returns-then-not-wants_tra
 returns-then-not-wants_tracked-clause-goes g c = λ t start begun come. come.goes
 
 pub returns-then-not-wants_tracked-clause-found : goal.returns-then-not-wants_tracked-clause-found
-returns-then-not-wants_tracked-clause-found g c = λ t start begun come.
+returns-then-not-wants_tracked-clause-found g c = λ t start begun store come.
     let old = g.T.Tree.history c.args.tree.now in
     let files = g.S.Shelf.history c.args.shelf.now in
     let row = tracked_row c.args.child.now c.args.entry.now in
     let s = walk_status c.args.wanted t old old begun files in
-    letter_by s.asks (AreRight (rows_in t (shelves.now begun).files) t start old) (λ (p : List ℕ). IsLeftAsked s.asks s.id old old.last files begun.last p) (shelves.now begun).files s.id (trees.now old) c.args.wanted row
+    letter_by s.asks (AreRight (rows_in t store) t start old) (λ (p : List ℕ). IsLeftAsked store s.asks s.id old old.last files begun.last p) store s.id (trees.now old) c.args.wanted row
     None (asked_row c.args.wanted t c.args.child.now c.args.entry.now come.of c.requires (trees.now old))
-    (found_unwanted (λ k. IsLeftAsked s.asks s.id old old.last files begun.last k.path) (shelves.now begun).files s.id (trees.now old) c.args.wanted row c.if-not-entry.false (sym c.wants_tracked.ensures ∙ c.if-not-wants_tracked.true))
+    (found_unwanted (λ k. IsLeftAsked store s.asks s.id old old.last files begun.last k.path) store s.id (trees.now old) c.args.wanted row c.if-not-entry.false (sym c.wants_tracked.ensures ∙ c.if-not-wants_tracked.true))
 
 pub returns-then-not-wants_tracked-clause-noted : goal.returns-then-not-wants_tracked-clause-noted
 returns-then-not-wants_tracked-clause-noted g c = λ t start begun come.
@@ -90,16 +90,16 @@ returns-in_default-clause-goes g c = λ t start begun come.
     goes_on (walk_status c.args.wanted t start old begun files) old mid files files c.args.parent.now c.stat.ensures.passes (shelf.passes_same files) refl come.goes
 
 pub returns-in_default-clause-found : goal.returns-in_default-clause-found
-returns-in_default-clause-found g c = λ t start begun come.
+returns-in_default-clause-found g c = λ t start begun store come.
     let old = g.T.Tree.history c.args.tree.now in
     let mid = g.T.Tree.history c.stat.new.self in
     let files = g.S.Shelf.history c.args.shelf.now in
     let row = tracked_row c.args.child.now c.args.entry.now in
     let s = walk_status c.args.wanted t mid mid begun files in
-    letter_later c.args.wanted t (AreRight (rows_in t (shelves.now begun).files) t start mid) old mid mid begun files row (Some a_letter.Gone) c.stat.ensures.passes.past (extends_same mid)
-    (letter_by s.asks (AreRight (rows_in t (shelves.now begun).files) t start mid) (λ (p : List ℕ). IsLeftAsked s.asks s.id mid mid.last files begun.last p) (shelves.now begun).files s.id (trees.now mid) c.args.wanted row
+    letter_later c.args.wanted t store (AreRight (rows_in t store) t start mid) old mid mid begun files row (Some a_letter.Gone) c.stat.ensures.passes.past (extends_same mid)
+    (letter_by s.asks (AreRight (rows_in t store) t start mid) (λ (p : List ℕ). IsLeftAsked store s.asks s.id mid mid.last files begun.last p) store s.id (trees.now mid) c.args.wanted row
     (Some a_letter.Gone) (asked_row c.args.wanted t c.args.child.now c.args.entry.now come.of c.requires (trees.now mid))
-    (found_gone (λ k. IsLeftAsked s.asks s.id mid mid.last files begun.last k.path) (shelves.now begun).files s.id (trees.now mid) c.args.wanted row c.if-not-entry.false
+    (found_gone (λ k. IsLeftAsked store s.asks s.id mid mid.last files begun.last k.path) store s.id (trees.now mid) c.args.wanted row c.if-not-entry.false
     (λ meets. sym (c.in_ok-there.ensures.found (sym c.stat.ensures.passes.past.told ∙ meets.own.told)) ∙ c.in_default.is)))
 
 pub returns-in_default-clause-noted : goal.returns-in_default-clause-noted
@@ -162,9 +162,9 @@ returns-clause-found g c =
     let later = g.S.Shelf.history c.tell_there.new.shelf in
     let row = tracked_row c.args.child.now c.args.entry.now in
     IfOk-weaker c.tell_there.result _ _
-    (λ told found t start begun come.
-    letter_later c.args.wanted t (AreRight (rows_in t (shelves.now begun).files) t start new) old mid new begun later row told.letter c.stat.ensures.passes.past c.tell_there.ensures.passes.past
-    (found t start begun
+    (λ told found t start begun store come.
+    letter_later c.args.wanted t store (AreRight (rows_in t store) t start new) old mid new begun later row told.letter c.stat.ensures.passes.past c.tell_there.ensures.passes.past
+    (found t start begun store
     (record { of = come.of; goes = goes_on (walk_status c.args.wanted t start old begun files) old mid files files c.args.parent.now c.stat.ensures.passes (shelf.passes_same files) refl come.goes })
     (λ told. sym (c.in_ok-there.ensures.found (sym c.stat.ensures.passes.past.told ∙ told)) ∙ c.in-Some.is)))
     c.tell_there.ensures.found
@@ -224,6 +224,18 @@ returns-clause-met g c =
     (λ told. sym (c.in_ok-there.ensures.found (sym c.stat.ensures.passes.past.told ∙ told)) ∙ c.in-Some.is))
     c.tell_there.ensures.met
 
+pub returns-clause-names : goal.returns-clause-names
+returns-clause-names g c =
+    let old = g.T.Tree.history c.args.tree.now in
+    let mid = g.T.Tree.history c.stat.new.self in
+    let files = g.S.Shelf.history c.args.shelf.now in
+    IfErr-weaker c.tell_there.result _ _
+    (λ fault met t start begun come.
+    met t start begun
+    (record { of = come.of; goes = goes_on (walk_status c.args.wanted t start old begun files) old mid files files c.args.parent.now c.stat.ensures.passes (shelf.passes_same files) refl come.goes })
+    (λ told. sym (c.in_ok-there.ensures.found (sym c.stat.ensures.passes.past.told ∙ told)) ∙ c.in-Some.is))
+    c.tell_there.ensures.names
+
 pub returns-clause-store : goal.returns-clause-store
 returns-clause-store g c =
     let old = g.T.Tree.history c.args.tree.now in
@@ -235,3 +247,35 @@ returns-clause-store g c =
     (record { of = come.of; goes = goes_on (walk_status c.args.wanted t start old begun files) old mid files files c.args.parent.now c.stat.ensures.passes (shelf.passes_same files) refl come.goes })
     (λ told. sym (c.in_ok-there.ensures.found (sym c.stat.ensures.passes.past.told ∙ told)) ∙ c.in-Some.is))
     c.tell_there.ensures.store
+
+pub returns-then-not-entry-clause-reads : goal.returns-then-not-entry-clause-reads
+returns-then-not-entry-clause-reads g c = λ t start begun come told.
+    let old = g.T.Tree.history c.args.tree.now in
+    reads_nothing (walk_status c.args.wanted t start old begun (g.S.Shelf.history c.args.shelf.now)) old c.args.child.now.path.text.now refl
+
+pub returns-then-not-wants_tracked-clause-reads : goal.returns-then-not-wants_tracked-clause-reads
+returns-then-not-wants_tracked-clause-reads g c = λ t start begun come told.
+    let old = g.T.Tree.history c.args.tree.now in
+    reads_nothing (walk_status c.args.wanted t start old begun (g.S.Shelf.history c.args.shelf.now)) old c.args.child.now.path.text.now refl
+
+pub returns-in_default-clause-reads : goal.returns-in_default-clause-reads
+returns-in_default-clause-reads g c = λ t start begun come told.
+    let old = g.T.Tree.history c.args.tree.now in
+    let mid = g.T.Tree.history c.stat.new.self in
+    reads_nothing (walk_status c.args.wanted t start mid begun (g.S.Shelf.history c.args.shelf.now)) old c.args.child.now.path.text.now (asks_nothing _ old mid (c.stat.ensures.asked told))
+
+pub returns-in_err-there-clause-reads : goal.returns-in_err-there-clause-reads
+returns-in_err-there-clause-reads g c = λ t start begun come told.
+    let old = g.T.Tree.history c.args.tree.now in
+    let mid = g.T.Tree.history c.stat.new.self in
+    reads_nothing (walk_status c.args.wanted t start mid begun (g.S.Shelf.history c.args.shelf.now)) old c.args.child.now.path.text.now (asks_nothing _ old mid (c.stat.ensures.asked told))
+
+pub returns-clause-reads : goal.returns-clause-reads
+returns-clause-reads g c = λ t start begun come told.
+    let old = g.T.Tree.history c.args.tree.now in
+    let mid = g.T.Tree.history c.stat.new.self in
+    let files = g.S.Shelf.history c.args.shelf.now in
+    reads_after (walk_status c.args.wanted t start (g.T.Tree.history c.tell_there.new.tree) begun (g.S.Shelf.history c.tell_there.new.shelf)) old mid c.args.child.now.path.text.now (asks_nothing _ old mid (c.stat.ensures.asked told))
+    (c.tell_there.ensures.reads t start begun
+    (record { of = come.of; goes = goes_on (walk_status c.args.wanted t start old begun files) old mid files files c.args.parent.now c.stat.ensures.passes (shelf.passes_same files) refl come.goes })
+    (λ told. sym (c.in_ok-there.ensures.found (sym c.stat.ensures.passes.past.told ∙ told)) ∙ c.in-Some.is) (c.stat.ensures.passes.past.told ∙ told))

@@ -2,9 +2,12 @@ use Rattle.std.proofs.lemmas.Result.{err_from_is_err_and}
 use Rattle.std.proofs.Common.{refl}
 use Rattle.hg_flat.specs.Parent.{WasAsked}
 use Rattle.hg_flat.proofs.Asks.{reads_none}
+use Rattle.hg_flat.proofs.Needing.{reads_no}
 use Rattle.hg_flat.proofs.Storing.{store_none}
+use Rattle.hg_shelf.proofs.Histories as shelves
 use Rattle.hg_mixed.specs.Held.{table}
 use Rattle.hg_walk.specs.Walking.{asked_unvouched, walk_status}
+use Rattle.hg_walk.proofs.Earlier.{all_of, reads_own}
 use Rattle.hg_walk.proofs.Tracks.{notes_all, of_record, tells_whole}
 use Rattle.hg_walk.proofs.tracked.tell_all.Goals as goal
 
@@ -45,6 +48,19 @@ returns-in_err-tell_each-clause-met g c =
     rw (p.1, p.2)
     (c.in_err-tell_each.ensures.met t
     (rw c.deref.ensures.value (of_record c.args.wanted c.args.mixed.now c.in_ok-children.children.items c.in_ok-children.ensures.gathered c.parents.ensures.formed c.parents.result.0 c.parents.ensures.p1 old new c.tell_each.ensures.passes start files)))
+
+pub returns-in_err-tell_each-clause-first : goal.returns-in_err-tell_each-clause-first
+returns-in_err-tell_each-clause-first g c =
+    let old = g.T.Tree.history c.args.tree.now in
+    let new = g.T.Tree.history c.tell_each.new.tree in
+    let start = g.S.Shelf.history c.args.shelf.now in
+    let files = g.S.Shelf.history c.tell_each.new.shelf in
+    let t = table c.args.mixed.now in
+    let p = err_from_is_err_and c.from_residual-in_err-tell_each.result c.from_residual-in_err-tell_each.ensures.1 in
+    rw (p.1, p.2)
+    (c.in_err-tell_each.ensures.first t
+    (rw c.deref.ensures.value (of_record c.args.wanted c.args.mixed.now c.in_ok-children.children.items c.in_ok-children.ensures.gathered c.parents.ensures.formed c.parents.result.0 c.parents.ensures.p1 old new c.tell_each.ensures.passes start files))
+    (rw c.deref.ensures.value (all_of c.args.mixed.now c.in_ok-children.children.items c.in_ok-children.ensures.gathered c.parents.ensures.formed c.in_ok-children.ensures.ascending)))
 
 pub returns-in_err-children-clause-asked : goal.returns-in_err-children-clause-asked
 returns-in_err-children-clause-asked g c = λ told.
@@ -114,4 +130,31 @@ returns-clause-store g c = λ told.
 pub returns-in_err-children-clause-store : goal.returns-in_err-children-clause-store
 returns-in_err-children-clause-store g c = λ told.
     let old = g.T.Tree.history c.args.tree.now in
-    store_none (walk_status c.args.wanted (table c.args.mixed.now) old old (g.S.Shelf.history c.args.shelf.now) (g.S.Shelf.history c.args.shelf.now)) refl
+    store_none (walk_status c.args.wanted (table c.args.mixed.now) old old (g.S.Shelf.history c.args.shelf.now) (g.S.Shelf.history c.args.shelf.now)) (shelves.passes_same (g.S.Shelf.history c.args.shelf.now)) refl
+
+pub returns-in_err-children-clause-reads : goal.returns-in_err-children-clause-reads
+returns-in_err-children-clause-reads g c = λ told.
+    let old = g.T.Tree.history c.args.tree.now in
+    reads_no (walk_status c.args.wanted (table c.args.mixed.now) old old (g.S.Shelf.history c.args.shelf.now) (g.S.Shelf.history c.args.shelf.now)) refl
+
+pub returns-in_err-tell_each-clause-reads : goal.returns-in_err-tell_each-clause-reads
+returns-in_err-tell_each-clause-reads g c = λ told.
+    let old = g.T.Tree.history c.args.tree.now in
+    let new = g.T.Tree.history c.tell_each.new.tree in
+    let start = g.S.Shelf.history c.args.shelf.now in
+    let files = g.S.Shelf.history c.tell_each.new.shelf in
+    let t = table c.args.mixed.now in
+    reads_own (walk_status c.args.wanted t old new start files) c.in_ok-children.children.items c.in_ok-children.ensures.gathered.own
+    ((rw c.deref.ensures.value at c.tell_each.ensures.reads) told t
+    (of_record c.args.wanted c.args.mixed.now c.in_ok-children.children.items c.in_ok-children.ensures.gathered c.parents.ensures.formed c.parents.result.0 c.parents.ensures.p1 old new c.tell_each.ensures.passes start files))
+
+pub returns-clause-reads : goal.returns-clause-reads
+returns-clause-reads g c = λ told.
+    let old = g.T.Tree.history c.args.tree.now in
+    let new = g.T.Tree.history c.tell_each.new.tree in
+    let start = g.S.Shelf.history c.args.shelf.now in
+    let files = g.S.Shelf.history c.tell_each.new.shelf in
+    let t = table c.args.mixed.now in
+    reads_own (walk_status c.args.wanted t old new start files) c.in_ok-children.children.items c.in_ok-children.ensures.gathered.own
+    ((rw c.deref.ensures.value at c.tell_each.ensures.reads) told t
+    (of_record c.args.wanted c.args.mixed.now c.in_ok-children.children.items c.in_ok-children.ensures.gathered c.parents.ensures.formed c.parents.result.0 c.parents.ensures.p1 old new c.tell_each.ensures.passes start files))

@@ -1,5 +1,5 @@
 -- What the trait says of each call follows from the whole state that the call leaves.
-use Rattle.std.proofs.Common.{◌≡◌, inr}
+use Rattle.std.proofs.Common.{◌≡◌, length, inr}
 use Rattle.std.proofs.lemmas.Result.{on_err_weaker, on_ok_weaker}
 use Rattle.hg_base.specs.Reads.{ReadsBytes}
 use Rattle.hg_shelf.specs.Reads.{size_of}
@@ -26,12 +26,12 @@ size-tells c =
 
 pub read_at-tells : goal.read_at-tells
 read_at-tells c =
-    let went = went (an_ask.Read c.args.name.now) c.args.self.now c.new.self.now c.result c.ensures.answered c.ensures.failed in
+    let went = went (an_ask.Read c.args.name.now c.args.place (length c.args.buf.now)) c.args.self.now c.new.self.now c.result c.ensures.answered c.ensures.failed in
     record {
       passes = passes_of c.args.self.now c.new.self.now went.grew went.ours went.locks;
       kept = goes_of c.args.self.now c.new.self.now went.grew;
-      asked = λ told. asks (an_ask.Read c.args.name.now) c.args.self.now c.new.self.now c.result c.ensures.answered c.ensures.failed;
-      found = λ told. found_of (an_ask.Read c.args.name.now) c.args.self.now c.new.self.now c.result (λ files got. ReadsBytes (files c.args.name.now) c.args.place c.args.buf.now c.new.buf.now got) c.ensures.answered c.ensures.found;
+      asked = λ told. asks (an_ask.Read c.args.name.now c.args.place (length c.args.buf.now)) c.args.self.now c.new.self.now c.result c.ensures.answered c.ensures.failed;
+      found = λ told. found_of (an_ask.Read c.args.name.now c.args.place (length c.args.buf.now)) c.args.self.now c.new.self.now c.result (λ files got. ReadsBytes (files c.args.name.now) c.args.place c.args.buf.now c.new.buf.now got) c.ensures.answered c.ensures.found;
       fit = c.ensures.fit;
       held = went.refusals;
       cause = c.ensures.cause;
