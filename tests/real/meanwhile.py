@@ -3,6 +3,7 @@
 import subprocess
 import sys
 
+from commits import HEX, P1, ROW, W, name_of, put_entries, put_plain
 from dirstate import written
 from folder import aborted, lay_out, lines, put_record
 
@@ -53,6 +54,38 @@ def run_neighbour(tests):
         tests.compare("the neighbour is gone", tests.run(root), (0, STAY, b""))
 
 
+# Contents come, and then the manifest that names them, each by one rename, after so many thousandths of a second.
+COMER = """
+import os, sys, time
+time.sleep(int(sys.argv[1]) / 1000)
+for name in sys.argv[2:]:
+    os.rename(f".hg/{name}", f".hg/plain/{name}")
+"""
+
+
+def run_coming(tests):
+    """A manifest comes while statuses run: each answers that it is absent, or what it says, and behind the first of these no one misses it."""
+    absent, there = (255, b"", aborted(f"no manifest {HEX}")), (0, lines("C a"), b"")
+    contents, manifest = f"f-{name_of(1)}", f"m-{HEX}"
+    bad, seen = [], set()
+    for number in range(40):
+        with tests.working_copy() as root:
+            lay_out(root, ["a"])
+            put_entries(root, [("a", W | P1, "")])
+            put_plain(root, f"../{contents}", b"a\n")
+            put_plain(root, f"../{manifest}", ROW)
+            comer = subprocess.Popen([sys.executable, "-c", COMER, str(number % 10), contents, manifest], cwd=root)
+            answers = []
+            while comer.poll() is None:
+                answers.append(tests.run(root, ["status", "-A"]))
+            answers.append(tests.run(root, ["status", "-A"]))
+            first = answers.index(there) if there in answers else len(answers)
+            if answers != [absent] * first + [there] * (len(answers) - first) or answers[-1] != there:
+                bad.append(answers)
+            seen |= set(answers)
+    tests.compare("a manifest that comes while statuses run, 40 times", (bad[:1], absent in seen, there in seen), ([], True, True))
+
+
 def run_flushed(tests):
     """All that was printed stands in a file when the program has ended, also behind the last line feed or without any, and the line of a fault behind it."""
     for names in (["n"], [f"n{i:05}" for i in range(3_000)]):
@@ -74,5 +107,5 @@ def run_flushed(tests):
 
 
 def run(tests):
-    for part in (run_neighbour, run_flushed):
+    for part in (run_neighbour, run_coming, run_flushed):
         part(tests)
