@@ -11,20 +11,20 @@ use Rattle.hg_save.specs.Others.{HasData, KeepData}
 use Rattle.hg_save.specs.Record.{reading}
 use Rattle.hg_flat.proofs.Arriving.{there_stays}
 use Rattle.hg_session.proofs.Longer.{right_by_end}
-use Rattle.hg_session.specs.Acts.{AllSteps, ChangesTree, Deed, Stepping, TakesAway, makes_of, span_of, steps_of}
-use Rattle.hg_session.specs.Answered.{Ran}
+use Rattle.hg_session.specs.Acts.{AllSteps, ChangesTree, Deed, Stepping, TakesAway, makes_nothing, makes_of, span_of, steps_of}
+use Rattle.hg_session.specs.Answered.{IsAnswered, Ran, made_by}
 use Rattle.hg_session.specs.Call.{Call, Count, IsLeftAlone, Looked, Saved, Sink, Watched}
 use Rattle.hg_session.specs.Change.{ChangesBehind, IsUnwritten, NoneOurs, up_to}
-use Rattle.hg_session.specs.Changed.{RanChange}
-use Rattle.hg_session.specs.Good.{IsGoodIn, KeepsGood, OthersKeepStood, ReadsRight, StaysGood}
-use Rattle.hg_session.specs.Look.{IsLook}
-use Rattle.hg_session.specs.Status.{AreEarnedFor, RanStatus, noted_in}
+use Rattle.hg_session.specs.Crash.{IsFirmGround, IsSafeFromCrashes}
+use Rattle.hg_session.specs.Good.{IsFair, IsGoodGround, IsGoodIn, KeepsGood, OthersKeepStood, ReadsRight, StaysGood}
+use Rattle.hg_session.specs.Status.{AreEarnedFor, noted_in}
+use Rattle.hg_session.specs.Told.{Told}
 use Rattle.hg_session.specs.declared.acting.Changing.TheVariants as a_change
 use Rattle.hg_session.proofs.Crashes.{crash_unwritten}
 use Rattle.hg_session.proofs.GoodParents.{reparented_good}
 use Rattle.hg_session.proofs.GoodStays.{before, good_by, good_stays, one_table}
 use Rattle.hg_session.proofs.GoodParts.{stood_upto}
-use Rattle.hg_session.proofs.Makers.{asks_none}
+use Rattle.hg_session.proofs.Makers.{asks_none, may_note_nothing, may_nothing}
 use Rattle.hg_session.proofs.GoodTables.{KeepsTable, added_keeps, copied_keeps, forgotten_keeps, noted_good, table_good, table_same, table_through}
 use Rattle.hg_shelf.specs.History as shelf
 use Rattle.hg_shelf.specs.Images.{Goes, Images, course, last_scene}
@@ -62,17 +62,17 @@ each_taken gone t from to before after word old refused new is = forgotten_keeps
 
 module _ (copy : Watched tree.History) (files : Watched shelf.History) (store : shelf.Files) (past : shelf.Extends files.old files.new) (told : IsTrue files.old.told) (plain : StaysPlain store files.new files.old.last) where
   -- what a command makes of a good record is good
-  pub made_good : (command : Command) (h : tree.History) (loaded made : Table) (lines : List ℕ) (changed : Bool) → (makes_of command copy files).does loaded made lines changed → IsGoodIn store loaded h → IsGoodIn store made h
-  made_good (a_command.Add words) h loaded made lines changed does =
-      table_good store loaded made h (steps_keep (steps_of a_change.Add) each_add copy.old copy.new does.deeds loaded made does.steps)
-  made_good (a_command.Forget words) h loaded made lines changed does =
-      table_good store loaded made h (steps_keep (steps_of a_change.Forget) each_forget copy.old copy.new does.deeds loaded made does.steps)
-  made_good (a_command.Remove gone words) h loaded made lines changed does =
+  pub made_good : (command : Command) (h : tree.History) (loaded made : Table) (said : Told) (changed : Bool) → (makes_of command copy files).does loaded made said changed → IsGoodIn store loaded h → IsGoodIn store made h
+  made_good (a_command.Add words) h loaded made said changed does =
+      table_good store loaded made h (steps_keep (steps_of a_change.Add) each_add copy.old copy.new does.lines.deeds loaded made does.lines.steps)
+  made_good (a_command.Forget words) h loaded made said changed does =
+      table_good store loaded made h (steps_keep (steps_of a_change.Forget) each_forget copy.old copy.new does.lines.deeds loaded made does.lines.steps)
+  made_good (a_command.Remove gone words) h loaded made said changed does =
       table_good store loaded made h
-      (steps_keep (TakesAway gone (span_of loaded does.start files.new)) (each_taken gone loaded does.start files.new) copy.old copy.new does.acted.deeds loaded made does.acted.steps)
-  made_good (a_command.Copy source target) h loaded made lines changed does = table_good store loaded made h (copied_keeps source target does.refused loaded made does.copies.table)
-  made_good (a_command.SetParents p1 p2) h loaded made lines changed does = reparented_good files store told plain p1 p2 h loaded made lines changed does
-  made_good command h loaded made lines changed does = table_good store loaded made h (table_same loaded made does.table)
+      (steps_keep (TakesAway gone (span_of loaded does.lines.start files.new)) (each_taken gone loaded does.lines.start files.new) copy.old copy.new does.lines.acted.deeds loaded made does.lines.acted.steps)
+  made_good (a_command.Copy source target) h loaded made said changed does = table_good store loaded made h (copied_keeps source target does.lines.refused loaded made does.lines.copies.table)
+  made_good (a_command.SetParents p1 p2) h loaded made said changed does = reparented_good files store told plain p1 p2 h loaded made said.refused changed does.lines
+  made_good command h loaded made said changed does = table_good store loaded made h (table_same loaded made does.lines.table)
 
 -- ---- what a status makes
 
@@ -90,10 +90,10 @@ earned_later rows t h later notes past earned = record {
 
 noted_does : (looked : Looked) (table : Option Table) (notes : NotesData) (by : tree.History) → tree.Extends looked.tree.new by → IfSome table (λ t. AreEarnedFor looked t notes)
     → IsHonest looked.tree.new → IsTrue looked.tree.old.told → KeepsThere looked.shelf.new looked.shelf.old.last
-    → (loaded made : Table) (lines : List ℕ) (changed : Bool) → (noted_in looked.shelf table notes).does loaded made lines changed
+    → (loaded made : Table) (said : Told) (changed : Bool) → (noted_in looked.shelf table notes).does loaded made said changed
     → IsGoodIn (shelf.now looked.shelf.new).files loaded by → IsGoodIn (shelf.now looked.shelf.new).files made by
-noted_does looked None notes by past earned honest told plain loaded made lines changed does good = absurd does
-noted_does looked (Some t) notes by past earned honest told plain loaded made lines changed does good =
+noted_does looked None notes by past earned honest told plain loaded made said changed does good = absurd does
+noted_does looked (Some t) notes by past earned honest told plain loaded made said changed does good =
     let store = (shelf.now looked.shelf.new).files in
     noted_good store t loaded made notes by by (extends_same by) does.0 does.1 (earned_later (rows_in t store) t looked.tree.new by notes past (earned store honest told (there_stays looked.shelf.new looked.shelf.old.last plain))) good
 
@@ -138,23 +138,32 @@ module _ (copy : Watched tree.History) (files : Watched shelf.History) (oversize
   abbrev call : Command → Call
   call command = record { command = command; looked = looked; saved = saved; locks = locks; out = out; err = err }
 
-  look_stays : (command : Command) → IsLook (call command) code fault → StaysGood looked saved
-  look_stays command is by past fair ground =
-      good_by saved.old saved.new is.only.kept fair.calm fair.keep fair.plain fair.parent by fair.published ground.good None (λ r own. absurd own) (is.crash fair.calm fair.keep ground.latest)
+  -- the ground of a call that begins upon a good shelf is firm
+  good_firm : (by : tree.History) → Goes saved.old saved.new → IsFair by looked saved → IsGoodGround by (last_scene saved.old) → IsFirmGround saved
+  good_firm by goes fair ground = record {
+    sound = λ f left. let there = ground.good f left in (there.0, there.1);
+    kept = kept_fair saved goes fair.calm fair.kept ground.there;
+  }
 
-  change_stays : (command : Command) → RanChange (call command) code fault → StaysGood looked saved
-  change_stays command is by past fair ground =
-      good_stays saved.old saved.new is.kept fair.calm fair.keep fair.plain fair.parent by fair.published ground.good (shown (is.kept.past.told ∙ fair.calm.told)) (makes_of command copy files)
+  change_stays : (command : Command) → Goes saved.old saved.new → IsSafeFromCrashes (makes_of command copy files) saved → StaysGood looked saved
+  change_stays command goes crash by past fair ground =
+      good_stays saved.old saved.new goes fair.calm fair.keep fair.plain fair.parent by fair.published ground.good (shown (goes.past.told ∙ fair.calm.told)) (makes_of command copy files) (may_nothing command copy files)
       (λ from after within none. asks_none command copy files files.new from)
-      (λ loaded made lines changed does there. made_good copy files (shelf.now files.new).files is.kept.past fair.calm.told (there_stays files.new files.old.last fair.plain) command by loaded made lines changed does there)
-      fault (is.safe fair.calm) (is.crash fair.calm fair.keep ground.latest)
+      (λ loaded made said changed does there. made_good copy files (shelf.now files.new).files goes.past fair.calm.told (there_stays files.new files.old.last fair.plain) command by loaded made said changed does there)
+      (crash fair.calm fair.keep ground.latest (λ appends. good_firm by goes fair ground))
 
-  status_stays : (flags : StatusFlags) → RanStatus flags (call (a_command.Status flags)) code fault → StaysGood looked saved
-  status_stays flags ran by past fair ground =
-      good_stays saved.old saved.new ran.saving.kept fair.calm fair.keep fair.plain fair.parent by fair.published ground.good (shown (ran.saving.kept.past.told ∙ fair.calm.told)) (noted_in files ran.table ran.notes)
-      (λ from after within none. noted_fair files ran.table ran.notes files.new from (kept_fair saved ran.saving.kept fair.calm fair.kept ground.there from after within none))
-      (noted_does looked ran.table ran.notes by past ran.earned fair.honest fair.told fair.plain)
-      fault (ran.saving.safe fair.calm) (ran.crash fair.calm fair.keep ground.latest)
+  status_stays : (table : Option Table) (notes : NotesData) → IfSome table (λ t. AreEarnedFor looked t notes) → Goes saved.old saved.new → IsSafeFromCrashes (noted_in files table notes) saved → StaysGood looked saved
+  status_stays table notes earned goes crash by past fair ground =
+      good_stays saved.old saved.new goes fair.calm fair.keep fair.plain fair.parent by fair.published ground.good (shown (goes.past.told ∙ fair.calm.told)) (noted_in files table notes) (may_note_nothing files table notes)
+      (λ from after within none. noted_fair files table notes files.new from (kept_fair saved goes fair.calm fair.kept ground.there from after within none))
+      (noted_does looked table notes by past earned fair.honest fair.told fair.plain)
+      (crash fair.calm fair.keep ground.latest (λ appends. good_firm by goes fair ground))
+
+  -- nothing is made of the record
+  look_stays : Goes saved.old saved.new → IsSafeFromCrashes makes_nothing saved → StaysGood looked saved
+  look_stays goes crash by past fair ground =
+      good_stays saved.old saved.new goes fair.calm fair.keep fair.plain fair.parent by fair.published ground.good (shown (goes.past.told ∙ fair.calm.told)) makes_nothing (λ from to may. may)
+      (λ from after within none. tt) (λ loaded made said changed does there. absurd does) (crash fair.calm fair.keep ground.latest (λ appends. good_firm by goes fair ground))
 
   reads_right : tree.Extends copy.old copy.new → Goes saved.old saved.new → ReadsRight looked saved
   reads_right past goes fair apart ground t read =
@@ -171,20 +180,26 @@ module _ (copy : Watched tree.History) (files : Watched shelf.History) (oversize
       let right = trusted_are_right (rows_in t store) t copy.old copy.new past fair.honest apart trusted in
       record { end = right; each = λ keeps. right_by_end looked t goes.past.later keeps right }
 
-  look_good : (command : Command) → tree.Extends copy.old copy.new → IsLook (call command) code fault → KeepsGood looked saved
-  look_good command past is = record { past = past; stays = look_stays command is; right = reads_right past is.only.kept }
+  change_good : (command : Command) → ChangesBehind command copy files → Goes saved.old saved.new → IsSafeFromCrashes (makes_of command copy files) saved → KeepsGood looked saved
+  change_good command changes goes crash =
+      let past = behind_past command copy files changes in
+      record { past = past; stays = change_stays command goes crash; right = reads_right past goes }
 
-  change_good : (command : Command) → RanChange (call command) code fault → KeepsGood looked saved
-  change_good command is = let past = behind_past command copy files is.copy in record { past = past; stays = change_stays command is; right = reads_right past is.kept }
+  look_good : IsLeftAlone copy → Goes saved.old saved.new → IsSafeFromCrashes makes_nothing saved → KeepsGood looked saved
+  look_good alone goes crash = record { past = alone_past copy alone; stays = look_stays goes crash; right = reads_right (alone_past copy alone) goes }
 
   -- what a command did keeps what is good
-  pub ran_good : (command : Command) → Ran command (call command) code fault → KeepsGood looked saved
-  ran_good (a_command.Status flags) ran = record { past = ran.tree.past; stays = status_stays flags ran; right = reads_right ran.tree.past ran.saving.kept }
-  ran_good (a_command.Add words) ran = change_good (a_command.Add words) ran
-  ran_good (a_command.Forget words) ran = change_good (a_command.Forget words) ran
-  ran_good (a_command.Remove gone words) ran = change_good (a_command.Remove gone words) ran
-  ran_good (a_command.Copy source target) ran = change_good (a_command.Copy source target) ran
-  ran_good (a_command.SetParents p1 p2) ran = change_good (a_command.SetParents p1 p2) ran
-  ran_good a_command.DebugDirstate ran = look_good a_command.DebugDirstate (alone_past copy ran.alone) ran.look
-  ran_good a_command.DebugScript ran = look_good a_command.DebugScript (alone_past copy ran.undone.idle.copy) ran.look
-  ran_good (a_command.DebugLoad n) ran = look_good (a_command.DebugLoad n) (alone_past copy ran.undone.idle.copy) ran.look
+  ran_good : (command : Command) (ran : Ran command (call command) code fault) → Goes saved.old saved.new → IsSafeFromCrashes (made_by command (call command) code fault ran) saved → KeepsGood looked saved
+  ran_good (a_command.Status flags) ran goes crash = record { past = ran.tree.past; stays = status_stays ran.table ran.notes ran.earned goes crash; right = reads_right ran.tree.past goes }
+  ran_good (a_command.Add words) ran goes crash = change_good (a_command.Add words) ran.copy goes crash
+  ran_good (a_command.Forget words) ran goes crash = change_good (a_command.Forget words) ran.copy goes crash
+  ran_good (a_command.Remove gone words) ran goes crash = change_good (a_command.Remove gone words) ran.copy goes crash
+  ran_good (a_command.Copy source target) ran goes crash = change_good (a_command.Copy source target) ran.copy goes crash
+  ran_good (a_command.SetParents p1 p2) ran goes crash = change_good (a_command.SetParents p1 p2) ran.copy goes crash
+  ran_good a_command.DebugDirstate ran goes crash = look_good ran.alone goes crash
+  ran_good a_command.DebugScript ran goes crash = look_good ran.idle.copy goes crash
+  ran_good (a_command.DebugLoad n) ran goes crash = look_good ran.idle.copy goes crash
+
+  -- however a call ended
+  pub answered_good : (command : Command) → IsAnswered (call command) code fault → KeepsGood looked saved
+  answered_good command is = ran_good command is.ran is.kept is.crash

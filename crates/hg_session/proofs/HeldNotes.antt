@@ -261,7 +261,7 @@ module _ (start : History) (b s c : Course) (ours : b.history.ours ≡ true) (pa
         | inl none ↦ inl (unwritten_then b s c passes goes none)
         | inr over ↦ inr (
           follows result,
-          published_over b s c ours passes goes calm loaded (is calm.told) made docket_is nodes_is (noted_makes (record files { old = start }) recorded notes) (used_there calm) (lends_made over.1.changed) recorded [] (noted_stands calm) (same_table recorded, same_made, refl) over.1,
+          published_over b s c ours passes goes calm loaded (is calm.told) made docket_is nodes_is (noted_makes (record files { old = start }) recorded notes) (used_there calm) (lends_made over.1.changed) recorded (refusing []) (noted_stands calm) (same_table recorded, same_made, refl) over.1,
         )
       ]
 

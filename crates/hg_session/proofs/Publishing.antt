@@ -23,6 +23,7 @@ use Rattle.hg_session.proofs.UsedSteps.{used_front}
 use Rattle.hg_session.specs.Acts.{Makes, StandsAt}
 use Rattle.hg_session.specs.Anew.{IsOverwritten, IsRecorded}
 use Rattle.hg_session.specs.Change.{IsFirm, IsKept, IsPublished}
+use Rattle.hg_session.specs.Told.{Told}
 use Rattle.hg_session.specs.Ways.{IsMadeOver, KeepsBy, KeepsUnchanged, LendsUnchanged, Stood, stood_in}
 use Rattle.hg_shelf.specs.History.{Files, Passes, us}
 use Rattle.hg_shelf.specs.Images.{Course, Goes, last_scene, scene}
@@ -120,9 +121,9 @@ module _ (a b c : Course) (ours : a.history.ours ≡ true) (passes : Passes a.hi
         solid = λ way. front_solid a b c ours passes goes calm (firm way).solid;
       }
 
-      pub published_over : (recorded : Table) (lines : List ℕ) → (Does.fair c.history a.history.last → StandsAt c a.history.last recorded) → Does.does recorded (table made) lines true → IsOverwritten made loaded b c
+      pub published_over : (recorded : Table) (said : Told) → (Does.fair c.history a.history.last → StandsAt c a.history.last recorded) → Does.does recorded (table made) said true → IsOverwritten made loaded b c
           → IsPublished Does c a.history.last c.history.last
-      published_over recorded lines there does over = record {
+      published_over recorded said there does over = record {
         loaded = recorded;
         there = there;
         held = made;
@@ -131,7 +132,7 @@ module _ (a b c : Course) (ours : a.history.ours ≡ true) (passes : Passes a.hi
         lends = lends;
         made = table made;
         same = same_table (table made);
-        lines = lines;
+        said = said;
         does = does;
         found = over.put.found;
         is = over.put.is.same;

@@ -6,6 +6,7 @@ use Rattle.hg_base.specs.Fault.{Rose}
 use Rattle.hg_docket.specs.Docket.{docket_of}
 use Rattle.hg_entry.specs.Table.{Table}
 use Rattle.hg_image.specs.Reading.{RecordFault}
+use Rattle.hg_report.specs.Cause.{of_op}
 use Rattle.hg_report.specs.declared.fault.Fault.{Fault}
 use Rattle.hg_append.specs.declared.fault.EncodeFault.{EncodeFault}
 use Rattle.hg_append.specs.declared.fault.EncodeFault.TheVariants as an_encode
@@ -29,6 +30,7 @@ use Rattle.hg_session.specs.Call.{Watched}
 use Rattle.hg_session.specs.Change.{AsksChange, ChangesBehind, IsDone, IsFirm, IsKept, IsMade, IsPublished, IsReadFirst, IsSafe, IsSafeHeld, IsUnwritten, IsToBlame, IsWritten, MetChanging, MetMade, MetStop, MetUnfit, NoneOurs, Stretch, up_to}
 use Rattle.hg_session.specs.Ways.{Fits, IsUnfit, KeepsBy, KeepsUnchanged, Stood, stood_by, stood_in}
 use Rattle.hg_session.specs.Loaded.{LoadMet, MetReading, IsRefused}
+use Rattle.hg_session.specs.Told.{Told}
 use Rattle.hg_session.specs.Locks.{TakenAt}
 use Rattle.hg_session.specs.declared.read_fault.ReadFault.{ReadFault}
 use Rattle.hg_session.specs.declared.read_fault.ReadFault.TheVariants as a_read
@@ -222,8 +224,8 @@ module _ (a b c d : Course) (lock : Waits a.history b.history) (unlock : Waits c
     told_part : IsTrue a.history.told → IsTrue b.history.told
     told_part told = p.past.told ∙ told
 
-    abbrev made_wide : (made : Table) (lines : List ℕ) (changed : Bool) → IsMade Part part made lines changed → IsMade Whole whole made lines changed
-    made_wide made lines changed is = record { loaded = is.loaded; read = λ told. read_wide is.loaded (is.read (told_part told)); does = wide.does is.loaded made lines changed is.does }
+    abbrev made_wide : (made : Table) (said : Told) (changed : Bool) → IsMade Part part made said changed → IsMade Whole whole made said changed
+    made_wide made said changed is = record { loaded = is.loaded; read = λ told. read_wide is.loaded (is.read (told_part told)); does = wide.does is.loaded made said changed is.does }
 
     -- what was read is the same, seen from the end
     stood_read_wide : (loaded : Table) (read : IsReadFirst b.history c.history loaded) → stood_by d.history read.read.tried.last ≡ stood_by c.history read.read.tried.last
@@ -249,11 +251,11 @@ module _ (a b c d : Course) (lock : Waits a.history b.history) (unlock : Waits c
           ];
     }
 
-    pub done_wide : (lines : List ℕ) → IsDone Part part (record { old = b; new = c }) b.history.last c.history.last lines → IsDone Whole whole (record { old = a; new = d }) b.history.last c.history.last lines
-    done_wide lines done = record {
+    pub done_wide : (said : Told) → IsDone Part part (record { old = b; new = c }) b.history.last c.history.last said → IsDone Whole whole (record { old = a; new = d }) b.history.last c.history.last said
+    done_wide said done = record {
       made = done.made;
       changed = done.changed;
-      is = made_wide done.made lines done.changed done.is;
+      is = made_wide done.made said done.changed done.is;
       fits = λ told. elim (done.fits (told_part told)) [ inl same ↦ inl same | inr fits ↦ inr (subst (λ (stood : Stood). Fits stood done.made) (sym (stood_read_wide done.is.loaded (done.is.read (told_part told)))) fits) ];
       kept = λ calm.
           subst (λ (f : Files). IsKept (stood_in f) done.is.loaded done.made (record { old = a; new = d }) b.history.last c.history.last) (sym (to_end b.history.last q.past.later).shown)
@@ -278,8 +280,8 @@ module _ (a b c d : Course) (lock : Waits a.history b.history) (unlock : Waits c
           lends = is.lends;
           made = is.made;
           same = is.same;
-          lines = is.lines;
-          does = wide.does is.loaded is.made is.lines true is.does;
+          said = is.said;
+          does = wide.does is.loaded is.made is.said true is.does;
           found = is.found;
           is = is.is;
           crash = λ first ground k f after upto left.
@@ -309,8 +311,15 @@ module _ (a b c d : Course) (lock : Waits a.history b.history) (unlock : Waits c
         }
 
     pub safe_wide : (fault : Option Fault) → IsSafeHeld Part (record { old = b; new = c }) fault → IsSafe Whole (record { old = a; new = d }) fault
-    safe_wide fault (inl none) = inl (unwritten_wide none)
-    safe_wide fault (inr (may, is)) = inr (may, record { stretch = held_stretch; is = published_wide is })
+    safe_wide fault (inl none) = inl (inl (unwritten_wide none))
+    safe_wide fault (inr (may, is)) = inr (may, record {
+      stretch = held_stretch;
+      since = b.history.last;
+      from = omega arith;
+      upto = q.past.later;
+      may = λ k after below. absurd (omega (arith, after, below));
+      is = published_wide is;
+    })
 
     refuses_wide : (fault : ReadFault) → LoadMet fault part → LoadMet fault whole
     refuses_wide fault met told =
@@ -326,7 +335,7 @@ module _ (a b c d : Course) (lock : Waits a.history b.history) (unlock : Waits c
           },
         )
 
-    stop_wide : (fault : OpFault) → MetStop Part part fault → MetStop Whole whole fault
+    stop_wide : (fault : Fault) → MetStop Part part fault → MetStop Whole whole fault
     stop_wide fault met = record { loaded = met.loaded; read = λ told. read_wide met.loaded (met.read (told_part told)); stops = wide.stops met.loaded fault met.stops }
 
     reading_met : (fault : ReadFault) → (Rose before after → Rose start end) → MetReading part fault → MetReading whole fault
@@ -342,13 +351,13 @@ module _ (a b c d : Course) (lock : Waits a.history b.history) (unlock : Waits c
     blame_wide fault rose met = tt
 
     pub done_met : MetMade Part part → MetMade Whole whole
-    done_met met = record { made = met.made; lines = met.lines; changed = met.changed; is = made_wide met.made met.lines met.changed met.is }
+    done_met met = record { made = met.made; said = met.said; changed = met.changed; is = made_wide met.made met.said met.changed met.is }
 
     unfit_wide : (fault : EncodeFault) → MetUnfit Part part fault → MetUnfit Whole whole fault
     unfit_wide fault met = record {
       made = met.made;
-      lines = met.lines;
-      is = made_wide met.made met.lines true met.is;
+      said = met.said;
+      is = made_wide met.made met.said true met.is;
       unfit = λ told.
           let read : IsReadFirst b.history c.history met.is.loaded = met.is.read (told_part told) in
           let within = last_within b.history (up_to read.upto c.history) read.read.tries read.read.tried in
@@ -358,7 +367,7 @@ module _ (a b c d : Course) (lock : Waits a.history b.history) (unlock : Waits c
 
     pub met_wide : (fault : ChangeFault) → (Rose before after → Rose start end) → MetChanging Part copy part fault → MetChanging Whole copy whole fault
     met_wide (a_change_fault.Read fault) rose met = (reading_met fault rose met.0, met.1)
-    met_wide (a_change_fault.Op fault) rose met = (stop_wide fault met.0, blame_wide fault rose met.1)
+    met_wide (a_change_fault.Op fault) rose met = (stop_wide (of_op fault) met.0, blame_wide fault rose met.1)
     met_wide (a_change_fault.Encode an_encode.OutOfMemory) rose met = done_met met
     met_wide (a_change_fault.Encode (an_encode.TooLarge size)) rose met = unfit_wide (an_encode.TooLarge size) met
     met_wide (a_change_fault.Encode an_encode.IdsSpent) rose met = unfit_wide an_encode.IdsSpent met

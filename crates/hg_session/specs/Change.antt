@@ -1,5 +1,5 @@
 -- What a command that changes the record answers and leaves, and why.
-use Rattle.std.specs.Prelude.{ℕ, ◌≡◌, ◌⊎◌, ◌≤◌, ◌<◌, Bool, true, false, List, [], Option, Some, None, Result, Ok, Err, IsTrue}
+use Rattle.std.specs.Prelude.{ℕ, ◌≡◌, ◌+◌, ◌⊎◌, ◌≤◌, ◌<◌, Bool, true, false, List, [], Option, Some, None, Result, Ok, Err, IsTrue}
 use Rattle.hg_append.specs.declared.encoding.Encoded.{Encoded}
 use Rattle.hg_append.specs.declared.fault.EncodeFault.{EncodeFault}
 use Rattle.hg_append.specs.declared.way.Way.TheVariants as a_way
@@ -28,6 +28,7 @@ use Rattle.hg_session.specs.Load.{of_read}
 use Rattle.hg_session.specs.Loaded.{AsksRecord, IsRead, MetReading}
 use Rattle.hg_session.specs.Locks.{NotReturned, NotTaken, Refused, Returned, TakenAt}
 use Rattle.hg_session.specs.Put.{IsFaultOrMemory}
+use Rattle.hg_session.specs.Told.{Told}
 use Rattle.hg_session.specs.Ways.{Fits, IsMadeOver, IsUnfit, KeepsBy, KeepsUnchanged, LendsUnchanged, Stood, stood_by, stood_in}
 use Rattle.hg_session.specs.declared.change_fault.ChangeFault.{ChangeFault}
 use Rattle.hg_session.specs.declared.change_fault.ChangeFault.TheVariants as a_change_fault
@@ -60,10 +61,10 @@ abbrev pub stood_read : {old new : shelf.History} {loaded : Table} → IsReadFir
 stood_read {new = new} is = stood_by new is.read.tried.last
 
 -- a command made this of the record that was read in the call
-pub record IsMade (Does : Makes) (files : Watched shelf.History) (made : Table) (lines : List ℕ) (changed : Bool) : Type 0 where
+pub record IsMade (Does : Makes) (files : Watched shelf.History) (made : Table) (said : Told) (changed : Bool) : Type 0 where
   pub loaded : Table
   pub read : IsTrue files.old.told → IsReadFirst files.old files.new loaded
-  pub does : Does.does loaded made lines changed
+  pub does : Does.does loaded made said changed
 
 -- a stretch of a call from where the caller took the lock to where it gave it back; outside it the caller makes no step
 pub record Stretch (old new : shelf.History) : Type 0 where
@@ -81,6 +82,16 @@ pub record Stretch (old new : shelf.History) : Type 0 where
 -- the caller wrote nothing
 pub record IsUnwritten (old new : shelf.History) : Type 0 where
   pub none : NoneOurs new old.last new.last
+
+-- each step of the caller between two moments is one that its command may make
+abbrev pub OnlyMay : (Scene → Scene → Type 0) → Course → ℕ → ℕ → Type 0
+OnlyMay May c from to = (k : ℕ) → from ≤ k → k < to → c.history.who k ≡ shelf.us → May (scene c k) (scene c (k + 1))
+
+-- the caller wrote nothing, or only what its command may, while the lock was held
+abbrev pub WroteOnly : (Scene → Scene → Type 0) → Saved → Type 0
+WroteOnly May saved =
+    IsUnwritten saved.old.history saved.new.history
+    ⊎ ((stretch : Stretch saved.old.history saved.new.history) × OnlyMay May saved.new stretch.from stretch.to)
 
 -- the caller wrote nothing, unless the shelf failed while the lock was called for or a record was published
 abbrev pub FailsOrUnwritten : shelf.History → shelf.History → ChangeFault → Type 0
@@ -103,8 +114,8 @@ pub record IsPublished (Does : Makes) (c : Course) (from to : ℕ) : Type 0 wher
   pub lends : LendsUnchanged held
   pub made : Table
   pub same : IsSame (table held) made
-  pub lines : List ℕ
-  pub does : Does.does loaded made lines true
+  pub said : Told
+  pub does : Does.does loaded made said true
   -- what is recorded once it is published, and what is written for it
   pub found : Table
   pub is : IsSame found made
@@ -129,10 +140,14 @@ pub record IsPublished (Does : Makes) (c : Course) (from to : ℕ) : Type 0 wher
   -- the next one finds its identifier free
   pub latest : IsLatest (scene c from) → IsLatest (scene c to)
 
--- a record was published while the lock was held
+-- a record was published while the lock was held, from a moment on before which the caller made only steps there that its command may make
 pub record Publishes (Does : Makes) (saved : Saved) : Type 0 where
   pub stretch : Stretch saved.old.history saved.new.history
-  pub is : IsPublished Does saved.new stretch.from stretch.to
+  pub since : ℕ
+  pub from : stretch.from ≤ since
+  pub upto : since ≤ stretch.to
+  pub may : OnlyMay Does.may saved.new stretch.from since
+  pub is : IsPublished Does saved.new since stretch.to
 
 -- reads show exactly the bytes of a table that was made of a record, written over these files by the better way, and a crash leaves exactly them
 pub record IsWritten (stood : Stood) (made found : Table) (before : shelf.Files) (behind : Scene) : Type 0 where
@@ -172,10 +187,10 @@ pub record IsKept (stood : Stood) (loaded made : Table) (saved : Saved) (from to
   pub bytes : IsWritten stood made found (scene saved.new from).files (scene saved.new to) ⊎ IsUnwritten saved.old.history saved.new.history
 
 -- it was done between two moments, and what it made is recorded
-pub record IsDone (Does : Makes) (files : Watched shelf.History) (saved : Saved) (from to : ℕ) (lines : List ℕ) : Type 0 where
+pub record IsDone (Does : Makes) (files : Watched shelf.History) (saved : Saved) (from to : ℕ) (said : Told) : Type 0 where
   pub made : Table
   pub changed : Bool
-  pub is : IsMade Does files made lines changed
+  pub is : IsMade Does files made said changed
   pub fits : (told : IsTrue files.old.told) → ((changed ≡ false) × IsSame made is.loaded) ⊎ Fits (stood_read (is.read told)) made
   pub kept : Undisturbed saved.old saved.new → IsKept (stood_in (scene saved.new from).files) is.loaded made saved from to
   -- where nothing was changed nothing is written
@@ -204,8 +219,8 @@ fault_of (Err fault) = Some (of_change fault)
 -- all that the command says was done, and what it made of the record that was read can't be written over it
 pub record MetUnfit (Does : Makes) (files : Watched shelf.History) (fault : EncodeFault) : Type 0 where
   pub made : Table
-  pub lines : List ℕ
-  pub is : IsMade Does files made lines true
+  pub said : Told
+  pub is : IsMade Does files made said true
   pub unfit : (told : IsTrue files.old.told) → IsUnfit (stood_read (is.read told)) made fault
 
 -- the record was read in the call, where the files are told
@@ -218,7 +233,7 @@ ChangesBehind command copy files =
     IsLeftAlone copy ⊎ ((loaded : Table) × (IsTrue files.old.told → IsReadFirst files.old files.new loaded) × ChangesTree command loaded copy)
 
 -- the record was read in the call, and this stops what is made of it
-pub record MetStop (Does : Makes) (files : Watched shelf.History) (fault : OpFault) : Type 0 where
+pub record MetStop (Does : Makes) (files : Watched shelf.History) (fault : Fault) : Type 0 where
   pub loaded : Table
   pub read : IsTrue files.old.told → IsReadFirst files.old files.new loaded
   pub stops : Does.stops loaded fault
@@ -231,14 +246,14 @@ IsToBlame copy files fault = Unit {0}
 
 -- while the command did what it says
 abbrev pub MetDoing : Makes → Watched tree.History → Watched shelf.History → OpFault → Type 0
-MetDoing Does copy files fault = MetStop Does files fault × IsToBlame copy files fault
+MetDoing Does copy files fault = MetStop Does files (of_op fault) × IsToBlame copy files fault
 
 -- all that the command says was done
 pub record MetMade (Does : Makes) (files : Watched shelf.History) : Type 0 where
   pub made : Table
-  pub lines : List ℕ
+  pub said : Told
   pub changed : Bool
-  pub is : IsMade Does files made lines changed
+  pub is : IsMade Does files made said changed
 
 -- before anything was published, or while it was: what stood in the files, and then the working copy isn't looked at; what the command met; behind all that
 -- it says a table that can't be written, or a shelf that failed, which may be the lock's
@@ -263,9 +278,9 @@ abbrev pub MayFollowWriting : Option Fault → Type 0
 MayFollowWriting None = Unit {0}
 MayFollowWriting (Some fault) = (fault ≡ a_fault.ShelfFailed) ⊎ ((fault ≡ a_fault.ErrFailed) ⊎ (fault ≡ a_fault.OutOfMemory))
 
--- nothing was written, or a record was published while the lock was held
+-- nothing was written but what the command may, or a record was published while the lock was held
 abbrev pub IsSafe : Makes → Saved → Option Fault → Type 0
-IsSafe Does saved fault = IsUnwritten saved.old.history saved.new.history ⊎ (MayFollowWriting fault × Publishes Does saved)
+IsSafe Does saved fault = WroteOnly Does.may saved ⊎ (MayFollowWriting fault × Publishes Does saved)
 
 -- so it is where the lock is held all along
 abbrev pub IsSafeHeld : Makes → Saved → Option Fault → Type 0
@@ -274,26 +289,22 @@ IsSafeHeld Does saved fault =
 
 -- ---- the lock
 
--- the lock was refused, which is counted, and nothing else was done
-pub record WasRefused (copy : Watched tree.History) (files : Watched shelf.History) (locks : Count) (fault : Option Fault) : Type 0 where
+-- the lock was refused, which is counted, nothing was written, and this is so besides
+pub record WasRefused (Besides : Type 0) (files : Watched shelf.History) (locks : Count) : Type 0 where
   pub told : IsTrue files.old.told → Refused files.old files.new
   pub ours : files.new.ours ≡ files.old.ours
   pub counted : Rose locks.before locks.after
   pub unwritten : IsUnwritten files.old files.new
-  pub unasked : files.new.asked ≡ files.old.asked
-  pub unlooked : IsLeftAlone copy
-  pub answer : IsFaultOrMemory fault a_fault.Held
+  pub besides : Besides
 
--- taking it failed, and nothing else was done
-pub record WasNotTaken (copy : Watched tree.History) (files : Watched shelf.History) (locks : Count) (fault : Option Fault) : Type 0 where
+-- taking it failed, nothing was written, and this is so besides
+pub record WasNotTaken (Besides : Type 0) (files : Watched shelf.History) (locks : Count) : Type 0 where
   pub told : IsTrue files.old.told → NotTaken files.old files.new
   pub ours : files.new.ours ≡ files.old.ours
   pub uncounted : locks.after ≡ locks.before
   pub failed : Fails files
   pub unwritten : IsUnwritten files.old files.new
-  pub unasked : files.new.asked ≡ files.old.asked
-  pub unlooked : IsLeftAlone copy
-  pub answer : IsFaultOrMemory fault a_fault.ShelfFailed
+  pub besides : Besides
 
 -- it was taken and given back, after a fault too
 pub record WasReturned (files : Watched shelf.History) (locks : Count) : Type 0 where
@@ -301,18 +312,34 @@ pub record WasReturned (files : Watched shelf.History) (locks : Count) : Type 0 
   pub ours : files.new.ours ≡ false
   pub uncounted : locks.after ≡ locks.before
 
--- it was taken, and giving it back failed, behind a change that was done, or behind a first fault; where the shelf failed both times, both are counted
-pub record WasNotReturned (Does : Makes) (copy : Watched tree.History) (files : Watched shelf.History) (saved : Saved) (locks : Count) (fault : Option Fault) : Type 0 where
+-- it was taken, giving it back failed, and this is so besides
+pub record WasNotReturned (Besides : Type 0) (files : Watched shelf.History) (locks : Count) : Type 0 where
   pub told : IsTrue files.old.told → NotReturned files.old files.new
   pub uncounted : locks.after ≡ locks.before
   pub failed : Fails files
-  pub first : (IsFaultOrMemory fault a_fault.ShelfFailed × (stretch : Stretch saved.old.history saved.new.history) × (lines : List ℕ) × IsDone Does files saved stretch.from stretch.to lines)
-      ⊎ ((met : ChangeFault) × IsFaultOrMemory fault (of_change met) × MetChanging Does copy files met × (of_change met ≡ a_fault.ShelfFailed → FailsTwice files))
+  pub besides : Besides
 
--- the lock was called for once, and one of these came of it
+-- the lock was called for once, and one of these came of it, with what is so besides
+abbrev pub LockEnds : (AtRefusal AtTaking AtReturning : Type 0) → Watched shelf.History → Count → Type 0
+LockEnds AtRefusal AtTaking AtReturning files locks =
+    WasRefused AtRefusal files locks ⊎ (WasNotTaken AtTaking files locks ⊎ (WasReturned files locks ⊎ WasNotReturned AtReturning files locks))
+
+-- a fault is answered, and nothing else was done
+pub record OnlyAnswers (copy : Watched tree.History) (files : Watched shelf.History) (fault : Option Fault) (met : Fault) : Type 0 where
+  pub unasked : files.new.asked ≡ files.old.asked
+  pub unlooked : IsLeftAlone copy
+  pub answer : IsFaultOrMemory fault met
+
+-- the shelf failed behind a change that was done, or behind a first fault; where it failed both times, both are counted
+abbrev pub FailsBehind : Makes → Watched tree.History → Watched shelf.History → Saved → Option Fault → Type 0
+FailsBehind Does copy files saved fault =
+    (IsFaultOrMemory fault a_fault.ShelfFailed × (stretch : Stretch saved.old.history saved.new.history) × (said : Told) × IsDone Does files saved stretch.from stretch.to said)
+    ⊎ ((met : ChangeFault) × IsFaultOrMemory fault (of_change met) × MetChanging Does copy files met × (of_change met ≡ a_fault.ShelfFailed → FailsTwice files))
+
+-- how the lock went in a change: each end of it but one is a fault
 abbrev pub IsLocked : Makes → Watched tree.History → Watched shelf.History → Saved → Count → Option Fault → Type 0
 IsLocked Does copy files saved locks fault =
-    WasRefused copy files locks fault ⊎ (WasNotTaken copy files locks fault ⊎ (WasReturned files locks ⊎ WasNotReturned Does copy files saved locks fault))
+    LockEnds (OnlyAnswers copy files fault a_fault.Held) (OnlyAnswers copy files fault a_fault.ShelfFailed) (FailsBehind Does copy files saved fault) files locks
 
 -- what is answered once the lock was given back, or couldn't be: the first fault
 abbrev pub once_freed : {A U E : Type 0} → Result A ChangeFault → Result U E → Result A ChangeFault

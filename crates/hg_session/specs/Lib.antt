@@ -22,4 +22,5 @@ pub mod Manifests
 pub mod Put
 pub mod Saving
 pub mod Status
+pub mod Told
 pub mod Ways

@@ -7,10 +7,6 @@ use Rattle.hg_report.specs.declared.fault.Fault.TheVariants as a_fault
 use Rattle.hg_session.specs.Call.{Fails, Sink}
 use Rattle.hg_stream.specs.Stream.{Grown, GrownByFront}
 
--- no text at all
-abbrev pub IsEmpty : List ℕ → Type 0
-IsEmpty text = text ≡ []
-
 -- a text was put, and the sink never failed
 pub record Puts (IsText : List ℕ → Type 0) (sink : Sink) : Type 0 where
   pub text : List ℕ

@@ -19,11 +19,10 @@ use Rattle.hg_save.specs.Loads.{IsTry, Loads, Try, files_at, found_by}
 use Rattle.hg_save.specs.Others.{KeepData}
 use Rattle.hg_save.specs.Record.{docket_in}
 use Rattle.hg_save.specs.declared.loaded.Loaded.{Loaded}
-use Rattle.hg_session.specs.Acts.{Makes}
-use Rattle.hg_session.specs.Call.{Count, Fails, FailsTwice, Saved, Watched}
-use Rattle.hg_session.specs.Change.{IsKept, IsSafe, IsSafeHeld, IsUnwritten, Stretch, WasReturned, up_to}
+use Rattle.hg_session.specs.Acts.{Makes, WritesNothing}
+use Rattle.hg_session.specs.Call.{Count, FailsTwice, Saved, Watched}
+use Rattle.hg_session.specs.Change.{IsKept, IsSafe, IsSafeHeld, IsUnwritten, LockEnds, Stretch, up_to}
 use Rattle.hg_session.specs.Crash.{IsLasting}
-use Rattle.hg_session.specs.Locks.{NotReturned, NotTaken, Refused}
 use Rattle.hg_session.specs.Look.{OnlyReads}
 use Rattle.hg_session.specs.Put.{IsFaultOrMemory}
 use Rattle.hg_session.specs.Ways.{IsMadeOver, IsUnfit, stood_by}
@@ -79,8 +78,9 @@ pub record IsOpenedSince (start now : History) (loaded : Loaded) (recorded : Tab
 -- others are asked to keep the data that dockets name until then
 abbrev pub noted_makes : Watched History → Table → NotesData → Makes
 noted_makes files recorded notes = record {
-  does = λ loaded made lines changed. IsSame loaded recorded × IsSame made (applied notes recorded) × (lines ≡ []);
+  does = λ loaded made said changed. IsSame loaded recorded × IsSame made (applied notes recorded) × (said.refused ≡ []);
   stops = λ loaded fault. ⊥;
+  may = WritesNothing;
   fair = λ h at. KeepData (up_to at h) files.old.last;
 }
 
@@ -150,47 +150,28 @@ IsNotedHeld Own start recorded notes saved =
 
 -- ---- the lock
 
--- the lock was refused, which is counted and no fault, and nothing was written
-pub record WasPassedOver (files : Watched History) (locks : Count) (fault : Option Fault) : Type 0 where
-  pub told : IsTrue files.old.told → Refused files.old files.new
-  pub ours : files.new.ours ≡ files.old.ours
-  pub counted : Rose locks.before locks.after
-  pub unwritten : IsUnwritten files.old files.new
-  pub answer : fault ≡ None
-
--- taking it failed, and nothing was written
-pub record WasNotGot (files : Watched History) (locks : Count) (fault : Option Fault) : Type 0 where
-  pub told : IsTrue files.old.told → NotTaken files.old files.new
-  pub ours : files.new.ours ≡ files.old.ours
-  pub uncounted : locks.after ≡ locks.before
-  pub failed : Fails files
-  pub unwritten : IsUnwritten files.old files.new
-  pub answer : IsFaultOrMemory fault a_fault.ShelfFailed
-
--- it was taken, and giving it back failed, behind notes that were saved, or behind a first fault; where the shelf failed both times, both are counted
-pub record WasNotGivenBack (Own : Try → Type 0) (start : History) (files : Watched History) (saved : Saved) (locks : Count) (recorded : Table) (notes : NotesData) (fault : Option Fault) : Type 0 where
-  pub told : IsTrue files.old.told → NotReturned files.old files.new
-  pub uncounted : locks.after ≡ locks.before
-  pub failed : Fails files
-  pub first : (IsFaultOrMemory fault a_fault.ShelfFailed × (IsNotedHeld Own start recorded notes saved ⊎ FailsTwice files)) ⊎ (fault ≡ Some a_fault.OutOfMemory)
+-- the shelf failed behind notes that were saved, or behind a first fault; where it failed both times, both are counted
+abbrev pub FailsBehindNotes : (Try → Type 0) → History → Watched History → Saved → Table → NotesData → Option Fault → Type 0
+FailsBehindNotes Own start files saved recorded notes fault =
+    (IsFaultOrMemory fault a_fault.ShelfFailed × (IsNotedHeld Own start recorded notes saved ⊎ FailsTwice files)) ⊎ (fault ≡ Some a_fault.OutOfMemory)
 
 -- nothing was to be saved: without a fault nothing was noted
 abbrev pub IsNotDue : NotesData → Option Fault → Type 0
 IsNotDue notes None = IsBlank notes
 IsNotDue notes (Some fault) = Unit {0}
 
--- nothing was to be saved, and it wasn't called for; or it was called for once, and one of these came of it
+-- nothing was to be saved, and the lock wasn't called for; or it was called for once, and one of these came of it: that it was refused is no fault
 abbrev pub IsLockedToSave : (Try → Type 0) → History → Watched History → Saved → Count → Table → NotesData → Option Fault → Type 0
 IsLockedToSave Own start files saved locks recorded notes fault =
-    (IsNotDue notes fault × OnlyReads files saved locks)
-    ⊎ (WasPassedOver files locks fault ⊎ (WasNotGot files locks fault ⊎ (WasReturned files locks ⊎ WasNotGivenBack Own start files saved locks recorded notes fault)))
+    (IsNotDue notes fault × OnlyReads saved locks)
+    ⊎ LockEnds (fault ≡ None) (IsFaultOrMemory fault a_fault.ShelfFailed) (FailsBehindNotes Own start files saved recorded notes fault) files locks
 
 -- ---- all of it
 
 -- what became of notes over a record of this table, which was read since a start
 pub record SavesNotes (Own : Try → Type 0) (start : History) (files : Watched History) (saved : Saved) (locks : Count) (recorded : Table) (notes : NotesData) (fault : Option Fault) : Type 0 where
   -- where nothing was noted nothing below `.hg` is touched
-  pub idle : IsBlank notes → OnlyReads files saved locks × (fault ≡ None)
+  pub idle : IsBlank notes → OnlyReads saved locks × (fault ≡ None)
   pub safe : Undisturbed saved.old saved.new → IsSafe (noted_makes (record files { old = start }) recorded notes) saved fault
   pub locked : IsLockedToSave Own start files saved locks recorded notes fault
   -- without a fault: nothing was noted, or the lock was refused, and else this came of it

@@ -1,5 +1,5 @@
 -- What a status prints, tells and answers.
-use Rattle.std.specs.Prelude.{ℕ, ◌≡◌, ◌≤◌, ◌<◌, ◌⊎◌, true, List, Option, Some, None, Result, Ok, Err, IfOk, IfSome, IsSomeAnd, IsTrue, OnOk}
+use Rattle.std.specs.Prelude.{ℕ, ◌≡◌, ◌≤◌, ◌<◌, ◌⊎◌, true, List, [], Option, Some, None, Result, Ok, Err, IfOk, IfSome, IsSomeAnd, IsTrue, OnOk}
 use Rattle.hg_base.specs.Fault.{Rose}
 use Rattle.hg_base.specs.declared.id.Id20.{Id20}
 use Rattle.hg_base.specs.declared.stat.Stat.{Stat}
@@ -30,21 +30,20 @@ use Rattle.hg_report.specs.declared.fault.Fault.TheVariants as a_fault
 use Rattle.hg_save.specs.Loads.{Try}
 use Rattle.hg_save.specs.Others.{KeepsRecords}
 use Rattle.hg_save.specs.Record.{record_in}
-use Rattle.hg_save.specs.Saved.{IsLatest}
 use Rattle.hg_session.specs.Acts.{Makes, makes_nothing}
 use Rattle.hg_session.specs.Call.{Call, Count, Fails, Looked, Saved, Serves, Sink, Watched}
 use Rattle.hg_session.specs.Change.{IsReadFirst, IsSafe, IsUnwritten}
-use Rattle.hg_session.specs.Crash.{IsCrashSafe, IsFirmFor, published_in}
 use Rattle.hg_session.specs.Flags.{style_of, wanted_of}
 use Rattle.hg_session.specs.Listed.{AsksBelow, AsksLittle, AsksOver, AsksOwn, AsksPlain, IsAskedAt, IsListable, IsListed, IsListedFor, IsOwn, IsRightFor, ReadsLittle, StatusCause, first_parent, status_over}
 use Rattle.hg_session.specs.Load.{of_read}
 use Rattle.hg_session.specs.Loaded.{IsLoaded, IsUnreadable, MetReading}
 use Rattle.hg_session.specs.Look.{IsCalm, Look, Concludes, OnlyReads, Shows, fault_in, saves_last}
 use Rattle.hg_session.specs.Put.{IsFaultOrMemory, LeavesFront, OnStream, Puts}
+use Rattle.hg_session.specs.Told.{Told, status_of}
 use Rattle.hg_session.specs.Saving.{IsLockedToSave, IsNotedHeld, LastsNoted, noted_makes}
 use Rattle.hg_session.specs.declared.read_fault.ReadFault.{ReadFault}
 use Rattle.hg_shelf.specs.History as shelf
-use Rattle.hg_shelf.specs.Images.{Goes, last_scene}
+use Rattle.hg_shelf.specs.Images.{Goes}
 use Rattle.hg_shelf.specs.Polite.{StaysPlain, Undisturbed}
 use Rattle.hg_tree.specs.History as tree
 use Rattle.hg_tree.specs.Honest.{IsHonest}
@@ -97,17 +96,15 @@ pub record IsWorked (looked : Looked) (wanted : Wanted) (table : Table) (notes :
 
 -- ---- what is printed
 
--- the text of rows that are the full listing for paths that are left alone, by the table that was read
-pub record IsRowsText (flags : StatusFlags) (looked : Looked) (table : Option Table) (text : List ℕ) : Type 0 where
+-- rows are printed that are the full listing for paths that are left alone, by the table that was read; what the listing warns of is told, and no word refused
+pub record SaysRows (flags : StatusFlags) (looked : Looked) (table : Option Table) (said : Told) : Type 0 where
   pub rows : List Row
   pub listing : IsSomeAnd table (IsListedFor looked (wanted_of flags) rows)
-  pub is : text ≡ text_of (style_of flags) rows
-
--- the text of what a listing warns of
-pub record IsWarningText (wanted : Wanted) (copy : Watched tree.History) (text : List ℕ) : Type 0 where
+  pub printed : said.printed ≡ text_of (style_of flags) rows
   pub warnings : List Warning
-  pub are : Warns wanted copy.old copy.new warnings
-  pub is : text ≡ warnings_text warnings
+  pub are : Warns (wanted_of flags) looked.tree.old looked.tree.new warnings
+  pub warned : said.warned ≡ warnings_text warnings
+  pub unrefused : said.refused ≡ []
 
 -- the text of the full listing that these flags ask for
 pub record IsFullText (flags : StatusFlags) (files : shelf.Files) (moment : Moment) (text : List ℕ) : Type 0 where
@@ -124,11 +121,6 @@ abbrev pub ListingCause : Looked → Wanted → Option Table → Fault → Type 
 ListingCause looked wanted table fault =
     ((f : ReadFault) × (fault ≡ of_read f) × MetReading looked.shelf f) ⊎ ((f : StatusFault) × (fault ≡ of_status f) × IsSomeAnd table (λ t. StatusCause looked wanted t f))
 
--- below `.hg` the caller only asked: it wrote nothing and called for no lock
-pub record OnlyAsksBelow (saved : Saved) (locks : Count) : Type 0 where
-  pub passes : shelf.Passes saved.old.history saved.new.history
-  pub kept : Goes saved.old saved.new
-  pub held : locks.after ≡ locks.before
 
 -- why saving met a fault: the shelf failed, for whose line there may be no memory, or there was none and nothing was written
 abbrev pub MetSaving : Watched shelf.History → Saved → Fault → Type 0
@@ -139,12 +131,11 @@ MetSaving files saved fault =
 -- a fault before that, it has only asked below `.hg`, and called for no lock; once it listed, what that came to holds whatever it meets behind it
 abbrev pub status_look : StatusFlags → Looked → Saved → Count → Option Table → NotesData → Look
 status_look flags looked saved locks table notes = record {
-  Before = λ fault. OnlyAsksBelow saved locks × ListingCause looked (wanted_of flags) table fault;
+  Before = λ fault. OnlyReads saved locks × ListingCause looked (wanted_of flags) table fault;
   Ready = IsSomeAnd table (λ t. IsWorked looked (wanted_of flags) t notes);
-  Printing = OnlyAsksBelow saved locks;
-  Text = IsRowsText flags looked table;
-  Telling = OnlyAsksBelow saved locks;
-  Told = IsWarningText (wanted_of flags) looked.tree;
+  Says = SaysRows flags looked table;
+  Printing = OnlyReads saved locks;
+  Telling = OnlyReads saved locks;
   Saving = MetSaving looked.shelf saved;
   order = saves_last;
 }
@@ -154,10 +145,9 @@ abbrev pub show_look : StatusFlags → Looked → Table → NotesData → Look
 show_look flags looked table notes = record {
   Before = λ fault. (f : StatusFault) × (fault ≡ of_status f) × StatusCause looked (wanted_of flags) table f;
   Ready = IsWorked looked (wanted_of flags) table notes;
+  Says = SaysRows flags looked (Some table);
   Printing = Unit {0};
-  Text = IsRowsText flags looked (Some table);
   Telling = Unit {0};
-  Told = IsWarningText (wanted_of flags) looked.tree;
   Saving = λ fault. ⊥;
   order = saves_last;
 }
@@ -254,7 +244,7 @@ ByLoaded files (Some table) loaded tried = (told : IsTrue files.old.told) × (tr
 
 -- what came of the lock: where no table was read it wasn't called for
 abbrev pub IsLockedLast : (Try → Type 0) → Watched shelf.History → Saved → Count → Option Table → NotesData → Option Fault → Type 0
-IsLockedLast Own files saved locks None notes fault = OnlyReads files saved locks
+IsLockedLast Own files saved locks None notes fault = OnlyReads saved locks
 IsLockedLast Own files saved locks (Some table) notes fault = IsLockedToSave Own files.old files saved locks table notes fault
 
 -- what becomes of the notes of a status that ended with this fault or with none, over the record that was read by its own try
@@ -262,12 +252,11 @@ pub record SavesLast (Own : Try → Type 0) (files : Watched shelf.History) (sav
   -- whatever the answer, nothing was written, or the record that was read, with the notes, was published while the lock was held
   pub safe : Undisturbed saved.old saved.new → IsSafe (noted_in files table notes) saved fault
   -- where nothing is noted, or a fault was met before, the files below `.hg` were only asked, and no lock was called for
-  pub idle : IsBlank notes → OnlyReads files saved locks
+  pub idle : IsBlank notes → OnlyReads saved locks
   pub locked : IsLockedLast Own files saved locks table notes fault
   -- without a fault the record with the notes is what is recorded where the lock was given back, unless nothing was noted, the lock was refused, or another
   -- docket stood, or what would be written is too large, or no identifier is left
   pub saves : fault ≡ None → IsSomeAnd table (λ t. IsBlank notes ⊎ (Rose locks.before locks.after ⊎ IsNotedHeld Own files.old t notes saved))
-  pub kept : Goes saved.old saved.new
 
 -- all of a status, or a fault, before its line is told
 pub record DoesStatus (flags : StatusFlags) (looked : Looked) (saved : Saved) (locks : Count) (out err : Sink) (result : Result Unit Fault) : Type 0 where
@@ -288,6 +277,7 @@ pub record DoesStatus (flags : StatusFlags) (looked : Looked) (saved : Saved) (l
   pub needed : IfSome table (λ t. AreNeeded t notes)
   pub noted : AreNoted looked.tree.old looked.tree.new notes
   pub earned : IfSome table (λ t. AreEarnedFor looked t notes)
+  pub kept : Goes saved.old saved.new
   pub saving : SavesLast (ByLoaded (listed_to end looked).shelf table loaded) looked.shelf saved locks table notes (fault_in result)
 
 -- a table was read in the call, before the caller made a step, where the files are told
@@ -338,9 +328,5 @@ pub record RanStatus (flags : StatusFlags) (call : Call) (code : ℕ) (fault : O
   pub lasts : (calm : Undisturbed call.saved.old call.saved.new) → KeepsRecords shelf.others call.saved.new call.saved.old.history.last
       → IfSome table (λ t. (noted : IsNotedHeld (ByLoadedFirst call.looked.shelf table loaded) call.looked.shelf.old t notes call.saved)
       → LastsNoted (ByLoadedFirst call.looked.shelf table loaded) call.looked.shelf.old t notes call.saved (noted calm).0.from (noted calm).0.to (noted calm).1)
-  -- and where others keep to how a record is published, and for an append where it is made upon firm ground: at each moment since the call's start a crash
-  -- leaves a record of what it might have left then, of what the call published, or of what others published since
-  pub crash : (calm : Undisturbed call.saved.old call.saved.new) → KeepsRecords shelf.others call.saved.new call.saved.old.history.last → IsLatest (last_scene call.saved.old)
-      → IsFirmFor (noted_in call.looked.shelf table notes) call.saved fault (saving.safe calm) → IsCrashSafe (published_in (noted_in call.looked.shelf table notes) call.saved fault (saving.safe calm)) call.saved
-  -- the status is 0 without a fault
-  pub status : fault ≡ None → code ≡ 0
+  -- without a fault the status is 0, as no word is refused
+  pub ends : (none : fault ≡ None) → code ≡ status_of (looks.done none).said.refused

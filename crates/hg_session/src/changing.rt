@@ -11,10 +11,12 @@ ghost use Rattle.hg_save.specs.Leads.{IsHeld};
 ghost use Rattle.hg_save.specs.Loads.{Try};
 ghost use Rattle.hg_session.specs.Acts.{makes_of};
 ghost use Rattle.hg_session.specs.Anew.{IsOpened, IsRecorded, LoadsOrRefuses, MetWriting, WritesOnly};
+ghost use Rattle.hg_session.specs.Call.{saved_by, watched};
 ghost use Rattle.hg_session.specs.Change.{AsksChange, ChangesBehind, FailsOrUnwritten, IsDone, IsSafeHeld, MetChanging, fault_of, of_change};
 ghost use Rattle.hg_session.specs.Loaded.{AsksRecord, NodesFind};
 ghost use Rattle.hg_session.specs.Ways.{CanWrite};
 ghost use Rattle.hg_ops.specs.declared.refusal.OpFault.TheVariants as an_op_fault;
+ghost use Rattle.hg_session.specs.Told.{refusing};
 ghost use Rattle.hg_session.specs.declared.change_fault.ChangeFault.TheVariants as a_fault;
 ghost use Rattle.hg_session.specs.declared.read_fault.ReadFault.TheVariants as a_read;
 ghost use Rattle.hg_shelf.specs.Asks.{AsksNothing};
@@ -89,35 +91,35 @@ pub(crate) fn change_locked<T: Tree, S: Shelf>(
         (λ lines. IsDone
         (makes_of
         command.now
-        (record { old = T.history tree.old; new = T.history tree.new; before = T.faults tree.old; after = T.faults tree.new })
-        (record { old = S.history shelf.old; new = S.history shelf.new; before = S.faults shelf.old; after = S.faults shelf.new }))
-        (record { old = S.history shelf.old; new = S.history shelf.new; before = S.faults shelf.old; after = S.faults shelf.new })
-        (record { old = course (S.history shelf.old) (S.images shelf.old); new = course (S.history shelf.new) (S.images shelf.new) })
+        (watched T.history T.faults tree.old tree.new)
+        (watched S.history S.faults shelf.old shelf.new))
+        (watched S.history S.faults shelf.old shelf.new)
+        (saved_by S.history S.images shelf.old shelf.new)
         (S.history shelf.old).last
         (S.history shelf.new).last
-        lines.items) }
+        (refusing lines.items)) }
     ensures met { IfErr
         result
         (MetChanging
         (makes_of
         command.now
-        (record { old = T.history tree.old; new = T.history tree.new; before = T.faults tree.old; after = T.faults tree.new })
-        (record { old = S.history shelf.old; new = S.history shelf.new; before = S.faults shelf.old; after = S.faults shelf.new }))
-        (record { old = T.history tree.old; new = T.history tree.new; before = T.faults tree.old; after = T.faults tree.new })
-        (record { old = S.history shelf.old; new = S.history shelf.new; before = S.faults shelf.old; after = S.faults shelf.new })) }
+        (watched T.history T.faults tree.old tree.new)
+        (watched S.history S.faults shelf.old shelf.new))
+        (watched T.history T.faults tree.old tree.new)
+        (watched S.history S.faults shelf.old shelf.new)) }
     ensures safe { Undisturbed (course (S.history shelf.old) (S.images shelf.old)) (course (S.history shelf.new) (S.images shelf.new))
         → IsSafeHeld
         (makes_of
         command.now
-        (record { old = T.history tree.old; new = T.history tree.new; before = T.faults tree.old; after = T.faults tree.new })
-        (record { old = S.history shelf.old; new = S.history shelf.new; before = S.faults shelf.old; after = S.faults shelf.new }))
-        (record { old = course (S.history shelf.old) (S.images shelf.old); new = course (S.history shelf.new) (S.images shelf.new) })
+        (watched T.history T.faults tree.old tree.new)
+        (watched S.history S.faults shelf.old shelf.new))
+        (saved_by S.history S.images shelf.old shelf.new)
         (fault_of result) }
     ensures unwritten { IfErr result (FailsOrUnwritten (S.history shelf.old) (S.history shelf.new)) }
     ensures copy { ChangesBehind
         command.now
-        (record { old = T.history tree.old; new = T.history tree.new; before = T.faults tree.old; after = T.faults tree.new })
-        (record { old = S.history shelf.old; new = S.history shelf.new; before = S.faults shelf.old; after = S.faults shelf.new }) }
+        (watched T.history T.faults tree.old tree.new)
+        (watched S.history S.faults shelf.old shelf.new) }
     ensures failed { T.faults tree.old < T.faults tree.new → result ≡ Err (a_fault.Op an_op_fault.TreeFailed) }
     ensures calm_tree { OnOk result (T.faults tree.new ≡ T.faults tree.old) }
     ensures calm_shelf { OnOk result (S.faults shelf.new ≡ S.faults shelf.old) }
@@ -127,7 +129,7 @@ pub(crate) fn change_locked<T: Tree, S: Shelf>(
     ensures asked { IsTrue (S.history shelf.old).told
         → AsksChange
         command.now
-        (record { old = T.history tree.old; new = T.history tree.new; before = T.faults tree.old; after = T.faults tree.new })
+        (watched T.history T.faults tree.old tree.new)
         (S.history shelf.old)
         (S.history shelf.new) }
     ensures lock { IsTrue (S.history shelf.old).told → IsHeld (S.history shelf.old) (S.history shelf.new) }

@@ -42,7 +42,6 @@ fn show<T: Tree, S: Shelf, G: Regexps, O: Sink, E: Sink>(
         (watched E.bytes E.faults err.old err.new)
         result }
     ensures only { OnlyReads
-        (watched S.history S.faults shelf.old shelf.new)
         (saved_by S.history S.images shelf.old shelf.new)
         (counted S.held shelf.old shelf.new) }
 {

@@ -84,7 +84,7 @@ returns-in_err-lines-clause-met g c =
     (met_acting a m m (passes_trans a.history b.history m.history c.in_ok-loaded.ensures.passes acts.below) (goes_same m) c.in_ok-loaded.loaded c.in_ok-loaded.loaded.whole.sound
     (loads_upto a.history b.history m.history c.in_ok-loaded.loaded acts.below.past c.in_ok-loaded.ensures.found) c.in_ok-table.ensures.0 c.in_ok-table.ensures.1
     (makes_of c.args.command.now copy whole) copy c.in_ok-table.table c.in_ok-table.ensures.2 (g.S.Shelf.faults c.args.shelf.now) (g.S.Shelf.faults c.read.new.shelf) (g.S.Shelf.faults c.act.new.shelf) c.in_err-lines.field-0.0
-    c.in_ok-loaded.ensures.cause.quiet (wider.stops _ c.in_err-lines.field-0.0 (acts.stops c.in_ok-table.ensures.2.unchanged)) acts.tree_cause.rose acts.shelf_cause.rose)
+    c.in_ok-loaded.ensures.cause.quiet (wider.stops _ (of_op c.in_err-lines.field-0.0) (acts.stops c.in_ok-table.ensures.2.unchanged)) acts.tree_cause.rose acts.shelf_cause.rose)
 
 pub returns-in_err-lines-clause-safe : goal.returns-in_err-lines-clause-safe
 returns-in_err-lines-clause-safe g c = λ calm.
@@ -151,7 +151,7 @@ returns-in_err-save-clause-met g c =
     let acted = wider.does _ _ _ _ (acts.does c.in_ok-table.ensures.2.unchanged) in
     rw (p.1, p.2)
     (met_writing a m d passes c.in_err-save.ensures.kept c.in_ok-loaded.loaded c.in_ok-loaded.loaded.whole.sound loads c.in_ok-table.ensures.0 c.in_ok-table.ensures.1
-    Does c.in_ok-table.table c.act.new.mixed c.in_ok-table.ensures.2 acts.image acts.lent c.in_ok-lines.lines.items acted copy
+    Does c.in_ok-table.table c.act.new.mixed c.in_ok-table.ensures.2 acts.image acts.lent (refusing c.in_ok-lines.lines.items) acted copy
     (g.S.Shelf.faults c.args.shelf.now) (g.S.Shelf.faults c.act.new.shelf) (g.S.Shelf.faults c.save.new.shelf) c.in_err-save.field-0.0 (acts.shelf_cause.quiet ∙ c.in_ok-loaded.ensures.cause.quiet) c.in_err-save.ensures.lent c.in_err-save.ensures.met)
 
 pub returns-in_err-save-clause-unwritten : goal.returns-in_err-save-clause-unwritten
@@ -184,7 +184,7 @@ returns-in_err-save-clause-safe g c = λ calm.
     let acted = wider.does _ _ _ _ (acts.does c.in_ok-table.ensures.2.unchanged) in
     rw (p.1, p.2)
     (safe_by a m d passes c.in_err-save.ensures.kept c.in_ok-loaded.loaded c.in_ok-loaded.loaded.whole.sound loads c.in_ok-table.ensures.0 c.in_ok-table.ensures.1
-    Does c.in_ok-table.table c.act.new.mixed c.in_ok-table.ensures.2 acts.image acts.lent c.in_ok-lines.lines.items acted
+    Does c.in_ok-table.table c.act.new.mixed c.in_ok-table.ensures.2 acts.image acts.lent (refusing c.in_ok-lines.lines.items) acted
     c.requires calm c.in_err-save.ensures.lent (Some (of_change c.in_err-save.field-0.0))
     (c.in_err-save.ensures.safe (second_part a m d (goes_trans a b m c.in_ok-loaded.ensures.kept c.in_ok-lines.ensures.kept) calm)))
 
@@ -252,13 +252,13 @@ returns-clause-done g c =
     let Does : Makes = makes_of c.args.command.now copy whole in
     let acted = wider.does _ _ _ _ (acts.does c.in_ok-table.ensures.2.unchanged) in
     done_by a m d passes c.in_ok-save.ensures.kept c.in_ok-loaded.loaded c.in_ok-loaded.loaded.whole.sound loads c.in_ok-table.ensures.0 c.in_ok-table.ensures.1
-    Does c.in_ok-table.table c.act.new.mixed c.in_ok-table.ensures.2 acts.image acts.lent c.in_ok-lines.lines.items acted
+    Does c.in_ok-table.table c.act.new.mixed c.in_ok-table.ensures.2 acts.image acts.lent (refusing c.in_ok-lines.lines.items) acted
     (g.S.Shelf.faults c.args.shelf.now) (g.S.Shelf.faults c.save.new.shelf) c.requires (acts.same c.in_ok-table.ensures.2.unchanged) c.in_ok-save.ensures.fits c.in_ok-save.ensures.lent
     (λ none. ap (λ s. course (g.S.Shelf.history s) (g.S.Shelf.images s)) (c.in_ok-save.ensures.still none))
     (λ calm. c.in_ok-save.ensures.recorded (second_part a m d (goes_trans a b m c.in_ok-loaded.ensures.kept c.in_ok-lines.ensures.kept) calm)
     (λ way.
     used_there a m d passes c.in_ok-save.ensures.kept c.in_ok-loaded.loaded c.in_ok-loaded.loaded.whole.sound loads c.in_ok-table.ensures.0 c.in_ok-table.ensures.1
-    Does c.in_ok-table.table c.act.new.mixed c.in_ok-table.ensures.2 acts.image acts.lent c.in_ok-lines.lines.items acted
+    Does c.in_ok-table.table c.act.new.mixed c.in_ok-table.ensures.2 acts.image acts.lent (refusing c.in_ok-lines.lines.items) acted
     c.requires calm))
 
 pub returns-clause-safe : goal.returns-clause-safe
@@ -277,7 +277,7 @@ returns-clause-safe g c = λ calm.
     let Does : Makes = makes_of c.args.command.now copy whole in
     let acted = wider.does _ _ _ _ (acts.does c.in_ok-table.ensures.2.unchanged) in
     (safe_by a m d passes c.in_ok-save.ensures.kept c.in_ok-loaded.loaded c.in_ok-loaded.loaded.whole.sound loads c.in_ok-table.ensures.0 c.in_ok-table.ensures.1
-    Does c.in_ok-table.table c.act.new.mixed c.in_ok-table.ensures.2 acts.image acts.lent c.in_ok-lines.lines.items acted
+    Does c.in_ok-table.table c.act.new.mixed c.in_ok-table.ensures.2 acts.image acts.lent (refusing c.in_ok-lines.lines.items) acted
     c.requires calm c.in_ok-save.ensures.lent None
     (c.in_ok-save.ensures.safe (second_part a m d (goes_trans a b m c.in_ok-loaded.ensures.kept c.in_ok-lines.ensures.kept) calm)))
 

@@ -5,7 +5,7 @@ use Rattle.hg_session.proofs.Freed.{once_done, once_locked, once_met, once_safe,
 use Rattle.hg_session.proofs.Locks.{not_taken_by, noted_taken, refused_by, taken_by}
 use Rattle.hg_session.proofs.Makers.{as_wide, makes_wide, none_asked}
 use Rattle.hg_session.proofs.Widening.{asks_whole, changes_wide}
-use Rattle.hg_session.specs.Acts.{AskNothing, Makes}
+use Rattle.hg_session.specs.Acts.{AskNothing, Makes, WritesNothing}
 use Rattle.hg_session.specs.Call.{Watched}
 use Rattle.hg_session.specs.Locks.{TakenAt}
 use Rattle.hg_shelf.specs.Images.{Course, course}
@@ -92,7 +92,7 @@ returns-in-Ok-true-clause-unwritten g c =
     λ told.
     taken_by a.history b.history x.history d.history c.lock.ensures.kept.past c.change_locked-done.ensures.kept.past c.unlock-freed.ensures.kept.past (noted told) c.change_locked-done.ensures.uncalled c.unlock-freed.result
     (c.unlock-freed.ensures.noted (c.change_locked-done.ensures.kept.past.told ∙ c.lock.ensures.kept.past.told ∙ told)) in
-    let nothing : Makes = record { does = λ old new lines changed. Unit {0}; stops = λ loaded fault. ⊥; fair = AskNothing } in
+    let nothing : Makes = record { does = λ old new said changed. Unit {0}; stops = λ loaded fault. ⊥; may = WritesNothing; fair = AskNothing } in
     rw c.first_fault.ensures
     (once_unwritten a b x d c.lock.ensures.waits c.unlock-freed.ensures.waits c.lock.ensures.kept c.change_locked-done.ensures.kept c.unlock-freed.ensures.kept noted c.change_locked-done.ensures.uncalled taken c.change_locked-done.ensures.lock
     nothing nothing (as_wide nothing none_asked) copy (g.S.Shelf.faults c.args.shelf.now) (g.S.Shelf.faults c.lock.new.self) (g.S.Shelf.faults c.change_locked-done.new.shelf) (g.S.Shelf.faults c.unlock-freed.new.self)
@@ -105,9 +105,7 @@ returns-in-Err-clause-locked g c = inr (inl (record {
   uncounted = c.in-Err.ensures.locks.1;
   failed = c.in-Err.ensures.cause.rose tt;
   unwritten = record { none = c.lock.ensures.waits.none };
-  unasked = c.lock.ensures.unasked;
-  unlooked = record { history = refl; count = refl };
-  answer = inl refl;
+  besides = record { unasked = c.lock.ensures.unasked; unlooked = record { history = refl; count = refl }; answer = inl refl };
 }))
 
 pub returns-in-Ok-false-clause-locked : goal.returns-in-Ok-false-clause-locked
@@ -118,9 +116,7 @@ returns-in-Ok-false-clause-locked g c =
       ours = was.0;
       counted = was.1;
       unwritten = record { none = c.lock.ensures.waits.none };
-      unasked = c.lock.ensures.unasked;
-      unlooked = record { history = refl; count = refl };
-      answer = inl refl;
+      besides = record { unasked = c.lock.ensures.unasked; unlooked = record { history = refl; count = refl }; answer = inl refl };
     })
 
 pub returns-in-Ok-true-clause-locked : goal.returns-in-Ok-true-clause-locked
