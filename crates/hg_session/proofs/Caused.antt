@@ -2,7 +2,7 @@
 use Rattle.std.proofs.Common.{ℕ, ◌≡◌, true, false, Option, Some, None, Result, Ok, Err, IfSome, IsTrue, refl, sym, subst, inl, inr, true≢false}
 use Rattle.std.specs.Option.{MatchOption}
 use Rattle.std.specs.Prelude.{IsSomeAnd, ◌⊎◌}
-use Rattle.hg_session.specs.Ends.{EndsChange}
+use Rattle.hg_session.specs.Changing.{EndsChange}
 use Rattle.hg_append.specs.declared.fault.EncodeFault.TheVariants as an_encode_fault
 use Rattle.hg_base.specs.Fault.{Rose}
 use Rattle.hg_entry.specs.Table.{Table}
@@ -28,9 +28,10 @@ use Rattle.hg_session.specs.Flags.{wanted_of}
 use Rattle.hg_session.specs.Listed.{StatusCause}
 use Rattle.hg_session.specs.Load.{of_print, of_read}
 use Rattle.hg_session.specs.Loaded.{AsksRecord, IsLoaded, MetReading}
-use Rattle.hg_session.specs.Look.{EndsAs, IsCalm, IsOutFault, LeavesAt, Concludes, OnlyReads, Stage, at_first, at_printing, at_saving, at_telling}
+use Rattle.hg_session.specs.Look.{IsCalm, IsOutFault, LeavesAt, Concludes, OnlyReads, Stage, at_first, at_printing, at_saving, at_telling}
+use Rattle.hg_session.specs.Looking.{EndsAs, DoesStatus}
 use Rattle.hg_session.specs.Put.{IsFaultOrMemory, OnStream, Tells}
-use Rattle.hg_session.specs.Status.{DoesStatus, IsLoadedFirst, ListingCause, RanStatus, noted_in, status_look}
+use Rattle.hg_session.specs.Status.{IsLoadedFirst, ListingCause, RanStatus, noted_in, status_look}
 use Rattle.hg_session.specs.declared.change_fault.ChangeFault.{ChangeFault}
 use Rattle.hg_session.specs.declared.change_fault.ChangeFault.TheVariants as a_change_fault
 use Rattle.hg_session.specs.declared.print_fault.PrintFault.{PrintFault}

@@ -26,11 +26,12 @@ use Rattle.hg_save.specs.declared.load_fault.LoadFault.{LoadFault}
 use Rattle.hg_save.specs.declared.loaded.Loaded.{Loaded}
 use Rattle.hg_save.proofs.Loads.{found_longer, last_within, tries_longer}
 use Rattle.hg_session.specs.Acts.{AsksBehind, ChangesTree, Makes}
-use Rattle.hg_session.specs.Anew.{IsOpened, IsOverwritten, IsRecorded, LoadsOrRefuses, MetWriting, WritesOnly}
+use Rattle.hg_session.specs.Anew.{IsOverwritten, IsRecorded, MetWriting, WritesOnly}
+use Rattle.hg_session.specs.Reading.{IsOpened, LoadsOrRefuses, by_load, NodesFind}
 use Rattle.hg_session.specs.Call.{Fails, IsLeftAlone, Watched}
-use Rattle.hg_session.specs.Change.{AsksChange, ChangesBehind, IsDone, IsKept, IsMade, IsPublished, IsReadFirst, IsSafeHeld, IsToBlame, IsUnwritten, MetChanging, MetUnfit, stood_read, up_to}
-use Rattle.hg_session.specs.Load.{by_load}
-use Rattle.hg_session.specs.Loaded.{AsksRecord, NodesFind, Refuses}
+use Rattle.hg_session.specs.Change.{AsksChange, ChangesBehind, IsDone, IsKept, IsMade, IsPublished, IsReadFirst, IsToBlame, IsUnwritten, MetChanging, MetUnfit, stood_read, up_to}
+use Rattle.hg_session.specs.Changing.{IsSafeHeld}
+use Rattle.hg_session.specs.Loaded.{AsksRecord, Refuses}
 use Rattle.hg_session.specs.Kept.{KeepsLent}
 use Rattle.hg_session.specs.Told.{Told}
 use Rattle.hg_session.specs.Ways.{CanWrite, Fits, IsMadeOver, LendsUnchanged, stood_by, stood_in}
@@ -45,7 +46,7 @@ use Rattle.hg_session.proofs.ReadNodes.{nodes_by}
 use Rattle.hg_session.proofs.Readings.{refused_by, sound_reading}
 use Rattle.hg_session.proofs.SameTables.{one_table}
 use Rattle.hg_shelf.specs.History as shelf
-use Rattle.hg_shelf.specs.History.{Extends, Files, History, Passes, us}
+use Rattle.hg_shelf.specs.History.{Extends, Files, History, Passes}
 use Rattle.hg_shelf.specs.Images.{Course, Goes, last_scene, scene}
 use Rattle.hg_shelf.specs.Polite.{Undisturbed}
 use Rattle.hg_tree.specs.History as tree

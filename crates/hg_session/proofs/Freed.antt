@@ -13,7 +13,8 @@ use Rattle.hg_save.specs.Leads.{IsHeld}
 use Rattle.hg_session.proofs.Widening.{calm_within, done_met, done_wide, held_stretch, met_wide, safe_wide, unwritten_wide}
 use Rattle.hg_session.specs.Acts.{Makes}
 use Rattle.hg_session.specs.Call.{Count, Saved, Watched}
-use Rattle.hg_session.specs.Change.{FailsOrUnwritten, IsDone, IsLocked, IsSafe, IsSafeHeld, MetChanging, MetLocking, Stretch, fault_of, of_change, once_freed}
+use Rattle.hg_session.specs.Change.{IsDone, IsLocked, IsSafe, MetChanging, MetLocking, Stretch, of_change}
+use Rattle.hg_session.specs.Changing.{FailsOrUnwritten, IsSafeHeld, fault_of, once_freed}
 use Rattle.hg_shelf.specs.History.{History, Waits}
 use Rattle.hg_shelf.specs.Images.{Course, Goes}
 use Rattle.hg_session.specs.Locks.{TakenAt}

@@ -37,7 +37,6 @@ use Rattle.hg_walk.proofs.Parts.{trusted_are_right}
 use Rattle.hg_walk.specs.Notes.{AreEarned, NotesData, with_hash}
 use Rattle.hg_walk.specs.Trust.{IsTrusted}
 use Rattle.hg_walk.specs.Walking.{rows_in}
-use Rattle.hg_words.specs.declared.flags.StatusFlags.{StatusFlags}
 use Rattle.hg_words.specs.declared.given.Command.{Command}
 use Rattle.hg_words.specs.declared.given.Command.TheVariants as a_command
 

@@ -20,8 +20,9 @@ use Rattle.hg_session.specs.Call.{Count, Fails, Looked, Saved, Sink}
 use Rattle.hg_session.specs.Flags.{wanted_of}
 use Rattle.hg_session.specs.Listed.{AsksBelow, AsksLittle, AsksOver, AsksPlain, IsListable, IsListedFor, StatusCause, StatusMet, asking, first_parent}
 use Rattle.hg_session.specs.Loaded.{AsksRecord}
-use Rattle.hg_session.specs.Look.{IsShown, IsUntold, LeavesAt, OnlyReads, Stage, at_first, at_printing, at_saving, at_telling}
-use Rattle.hg_session.specs.Status.{IsWorked, SaysRows, listed_to, show_look, status_look}
+use Rattle.hg_session.specs.Look.{IsShown, LeavesAt, OnlyReads, Stage, at_first, at_printing, at_saving, at_telling}
+use Rattle.hg_session.specs.Looking.{IsUntold, listed_to, show_look}
+use Rattle.hg_session.specs.Status.{IsWorked, SaysRows, status_look}
 use Rattle.hg_session.specs.Told.{Told}
 use Rattle.hg_walk.specs.Notes.{NotesData}
 use Rattle.hg_walk.specs.Walking.{rows_in}

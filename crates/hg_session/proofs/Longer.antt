@@ -39,7 +39,8 @@ use Rattle.hg_session.specs.Listed.{IsListable, IsListedFor, IsOwn, IsRightFor, 
 use Rattle.hg_session.specs.Loaded.{IsLoaded, IsRefused, LoadMet, MetReading}
 use Rattle.hg_session.specs.Look.{Concludes, IsShown, LeavesAt, Stage, at_first, at_printing, at_saving, at_telling}
 use Rattle.hg_session.specs.Put.{Tells}
-use Rattle.hg_session.specs.Status.{ByLoaded, ByLoadedFirst, IsLoadedFirst, IsWorked, ListingCause, SaysRows, listed_to, status_look}
+use Rattle.hg_session.specs.Status.{ByLoadedFirst, IsLoadedFirst, IsWorked, ListingCause, SaysRows, status_look}
+use Rattle.hg_session.specs.Looking.{ByLoaded, listed_to}
 use Rattle.hg_session.specs.Told.{Told}
 use Rattle.hg_session.specs.declared.read_fault.ReadFault.{ReadFault}
 use Rattle.hg_session.specs.declared.read_fault.ReadFault.TheVariants as a_read

@@ -7,7 +7,8 @@ use Rattle.hg_report.specs.declared.fault.Fault.TheVariants as a_fault
 use Rattle.hg_base.specs.Fault.{Rose}
 use Rattle.hg_stream.specs.Stream.{GrownByFront}
 use Rattle.hg_session.specs.Call.{Looked, Sink}
-use Rattle.hg_session.specs.Look.{EndsAs, IsCalm, IsUntold, fault_in, LeavesAt, LeftBySaving, Look, Concludes, Order, Shows, Stage, at_first, at_printing, at_saving, at_telling, saves_first, saves_last}
+use Rattle.hg_session.specs.Look.{IsCalm, LeavesAt, LeftBySaving, Look, Concludes, Order, Stage, at_first, at_printing, at_saving, at_telling, saves_first, saves_last}
+use Rattle.hg_session.specs.Looking.{EndsAs, IsUntold, fault_in, Shows}
 use Rattle.hg_session.specs.Put.{IsFaultOrMemory, IsSilent, Puts, PutsFront, PutsThen, Tells, TellsLine}
 use Rattle.hg_session.specs.Told.{IsText, errors_of}
 

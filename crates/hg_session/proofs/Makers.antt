@@ -31,7 +31,7 @@ abbrev pub FairWider : Makes → Makes → Type 0
 FairWider Part Whole = (c d : History) → Extends c d → (at : ℕ) → at ≤ c.last → Whole.fair d at → Part.fair c at
 
 -- what the one says the other says
-pub record IsWider (Part Whole : Makes) : Type 0 where
+pub record IsWider (Part Whole : Makes) : Type 1 where
   pub does : (old new : Table) (said : Told) (changed : Bool) → Part.does old new said changed → Whole.does old new said changed
   pub stops : (loaded : Table) (fault : Fault) → Part.stops loaded fault → Whole.stops loaded fault
   pub may : (before behind : Scene) → Part.may before behind → Whole.may before behind

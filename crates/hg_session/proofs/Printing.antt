@@ -29,7 +29,8 @@ use Rattle.hg_session.specs.Flags.{style_of, wanted_of}
 use Rattle.hg_session.specs.Listed.{AsksOver, AsksOwn, AsksPlain, IsListedFor, IsServedFor, StatusCause, StatusMet, status_over}
 use Rattle.hg_session.specs.Look.{at_first, at_printing, at_telling}
 use Rattle.hg_session.specs.Put.{IsSilent, is_stream}
-use Rattle.hg_session.specs.Status.{IsNotedBy, IsNotedByFor, IsNotedFor, IsRecordedFor, IsWorked, SaysRows, ShowsTable}
+use Rattle.hg_session.specs.Status.{IsNotedBy, IsNotedByFor, IsRecordedFor, IsWorked, SaysRows}
+use Rattle.hg_session.specs.Looking.{IsNotedFor, ShowsTable}
 use Rattle.hg_session.specs.Told.{Told, errors_of}
 use Rattle.hg_walk.specs.Notes.{AreEarned, NotesData}
 use Rattle.hg_walk.specs.Walking.{AreNeeded, AreNoted, AreNotedBy, rows_in}

@@ -22,9 +22,9 @@ use Rattle.hg_ops.specs.declared.refusal.OpFault.TheVariants as an_op
 use Rattle.hg_report.specs.Cause.{of_op}
 use Rattle.hg_session.specs.Acts.{Makes, makes_of}
 use Rattle.hg_session.specs.Call.{Call, Count, Fails, Saved, Serves, Watched}
-use Rattle.hg_session.specs.Change.{ChangesBehind, FailsBehind, FailsOrUnwritten, IsDone, IsLocked, IsMade, IsReadFirst, IsSafe, MayFollowWriting, AsksChange, MetChanging, MetDoing, MetLocking, MetStop, MetUnfit, NoneOurs, OnlyAnswers, Stretch, makes_in, of_change, up_to}
+use Rattle.hg_session.specs.Change.{ChangesBehind, FailsBehind, IsDone, IsLocked, IsMade, IsReadFirst, IsSafe, MayFollowWriting, AsksChange, MetChanging, MetDoing, MetLocking, MetStop, MetUnfit, NoneOurs, OnlyAnswers, Stretch, makes_in, of_change, up_to}
+use Rattle.hg_session.specs.Changing.{FailsOrUnwritten, EndsChange}
 use Rattle.hg_session.specs.Changed.{IsExpectedChange, IsMadeOf, IsStoppedFor, IsUnfitFor, SaysChange, change_look, looks_at_copy}
-use Rattle.hg_session.specs.Ends.{EndsChange}
 use Rattle.hg_session.proofs.Records.{puts_none}
 use Rattle.hg_session.specs.Look.{LeavesAt, Stage, at_first, at_saving, at_telling}
 use Rattle.hg_session.specs.Put.{IsFaultOrMemory, IsSilent, Tells, TellsLine, is_stream}

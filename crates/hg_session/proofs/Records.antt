@@ -6,11 +6,11 @@ use Rattle.hg_report.specs.declared.fault.Fault.{Fault}
 use Rattle.hg_stream.specs.Stream.{Grown}
 use Rattle.hg_shelf.specs.History as shelf
 use Rattle.hg_shelf.proofs.Histories as shelves
+use Rattle.hg_session.specs.Look.{OnlyReads}
 use Rattle.hg_session.specs.Loaded.{AsksRecord}
 use Rattle.hg_session.specs.Call.{Call, IsLeftAlone, Serves, Sink}
 use Rattle.hg_session.specs.Debug.{AnswersPrinting, HasText, IsExpectedOf, IsTextIn, Prints, RanRecord, ShowsRecord}
 use Rattle.hg_session.specs.Load.{of_print, of_read}
-use Rattle.hg_session.specs.Look.{IsLook}
 use Rattle.hg_session.specs.Put.{IsFaultOrMemory, IsSilent, LeavesFront, OnStream, Puts, is_stream}
 use Rattle.hg_session.specs.declared.print_fault.PrintFault.{PrintFault}
 use Rattle.hg_session.specs.declared.print_fault.PrintFault.TheVariants as a_print
@@ -18,6 +18,7 @@ use Rattle.hg_session.specs.declared.read_fault.ReadFault.{ReadFault}
 use Rattle.hg_session.specs.declared.read_fault.ReadFault.TheVariants as a_read
 use Rattle.hg_session.proofs.Looks.{not_without}
 use Rattle.hg_session.proofs.Readings.{read_now, unreadable_now}
+use Rattle.hg_session.specs.Told.{IsText}
 
 -- nothing was told, so an empty text was
 grown_none : (old : Option (List ℕ)) → Grown old old []

@@ -18,10 +18,12 @@ use Rattle.hg_session.proofs.Standing.{keep_earlier}
 use Rattle.hg_session.proofs.Widening.{calm_within, extends_up_to, held_stretch, kept_wide, safe_wide, stood_wide, unwritten_wide}
 use Rattle.hg_session.specs.Acts.{Makes}
 use Rattle.hg_session.specs.Call.{Count, Saved, Watched}
-use Rattle.hg_session.specs.Change.{IsKept, IsSafe, IsSafeHeld, IsUnwritten, up_to}
+use Rattle.hg_session.specs.Change.{IsKept, IsSafe, IsUnwritten, up_to}
+use Rattle.hg_session.specs.Changing.{IsSafeHeld}
 use Rattle.hg_session.specs.Locks.{NotTaken, Refused, TakenAt}
 use Rattle.hg_session.specs.Look.{OnlyReads}
-use Rattle.hg_session.specs.Saving.{AnotherStood, CannotWrite, IsLockedToSave, IsNoted, IsNotedHeld, IsUnsaved, SavesHeld, SavesNotes, noted_makes, once_saved, save_fault}
+use Rattle.hg_session.specs.Saving.{AnotherStood, CannotWrite, IsLockedToSave, IsNoted, IsNotedHeld, IsUnsaved, noted_makes}
+use Rattle.hg_session.specs.SavingNotes.{SavesHeld, SavesNotes, once_saved, save_fault}
 use Rattle.hg_session.specs.Ways.{IsMadeOver, IsUnfit, Stood, stood_by}
 use Rattle.hg_session.specs.declared.save_fault.SaveFault.{SaveFault}
 use Rattle.hg_session.specs.declared.save_fault.SaveFault.TheVariants as a_save

@@ -14,7 +14,8 @@ use Rattle.hg_session.specs.Call.{Count, Fails, FailsTwice, Saved, Watched}
 use Rattle.hg_session.specs.Change.{IsKept, IsSafe, IsUnwritten, NoneOurs, Stretch, WasNotReturned, WasNotTaken, WasRefused, WasReturned}
 use Rattle.hg_session.specs.Locks.{NotReturned, NotTaken, came_to}
 use Rattle.hg_session.specs.Look.{OnlyReads}
-use Rattle.hg_session.specs.Saving.{FailsBehindNotes, IsLockedToSave, IsNoted, IsNotedHeld, SavesNotes, noted_makes}
+use Rattle.hg_session.specs.Saving.{FailsBehindNotes, IsLockedToSave, IsNoted, IsNotedHeld, noted_makes}
+use Rattle.hg_session.specs.SavingNotes.{SavesNotes}
 use Rattle.hg_session.specs.Status.{IsLockedLast, SavesLast}
 use Rattle.hg_session.specs.Ways.{Stood, stood_by}
 use Rattle.hg_shelf.proofs.Histories.{passes_trans, us_apart}

@@ -27,10 +27,11 @@ use Rattle.hg_session.specs.Flags.{wanted_of}
 use Rattle.hg_session.specs.Listed.{AsksBelow, status_over}
 use Rattle.hg_session.specs.Load.{of_read}
 use Rattle.hg_session.specs.Loaded.{AsksRecord, IsLoaded, MetReading}
-use Rattle.hg_session.specs.Look.{IsCalm, IsShown, OnlyReads, Shows, at_first, at_saving, fault_in}
+use Rattle.hg_session.specs.Look.{IsCalm, IsShown, OnlyReads, at_first, at_saving}
+use Rattle.hg_session.specs.Looking.{Shows, fault_in, ByLoaded, DoesStatus, ShowsTable, listed_to}
 use Rattle.hg_session.specs.Put.{IsSilent, OnStream, is_stream}
-use Rattle.hg_session.specs.Saving.{of_save}
-use Rattle.hg_session.specs.Status.{AreEarnedFor, ByLoaded, DoesStatus, IsLockedLast, MetSaving, SavesLast, ShowsTable, listed_to, status_look}
+use Rattle.hg_session.specs.SavingNotes.{of_save}
+use Rattle.hg_session.specs.Status.{AreEarnedFor, IsLockedLast, MetSaving, SavesLast, status_look}
 use Rattle.hg_session.specs.declared.read_fault.ReadFault.{ReadFault}
 use Rattle.hg_session.specs.declared.read_fault.ReadFault.TheVariants as a_read
 use Rattle.hg_session.specs.declared.save_fault.SaveFault.{SaveFault}

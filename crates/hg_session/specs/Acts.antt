@@ -1,12 +1,9 @@
 -- What a command that changes the record makes of it, and how each does so.
-use Rattle.std.specs.Prelude.{ℕ, ◌≡◌, ◌⊎◌, ◌<◌, Bool, true, false, List, [], ◌∷◌, ◌++◌, map, Option, Some, None, Result, Ok, Err, IfErr, IfOk, OnOk, IsTrue, Vec, codes}
+use Rattle.std.specs.Prelude.{ℕ, ◌≡◌, ◌⊎◌, Bool, true, false, List, [], ◌∷◌, ◌++◌, map, Option, Some, None, Ok, Err, IsTrue, codes}
 use Rattle.std.specs.List.{AllByRecursion}
-use Rattle.std.specs.declared.alloc.Global.{Global}
-use Rattle.hg_base.specs.Fault.{HasCause}
 use Rattle.hg_entry.specs.Table.{Table}
-use Rattle.hg_mixed.specs.Edits.{IsOfSameImage}
 use Rattle.hg_nodes.specs.Edits.{IsSame}
-use Rattle.hg_mixed.specs.Held.{Held, table}
+use Rattle.hg_mixed.specs.Held.{table}
 use Rattle.hg_ops.specs.Copy.{Copies, OnlyCopies}
 use Rattle.hg_ops.specs.Look.{Adds, Looks}
 use Rattle.hg_ops.specs.Parent.{AsksStore, Span, upto}
@@ -23,12 +20,11 @@ use Rattle.hg_report.specs.Refusal.{refusal_line}
 use Rattle.hg_report.specs.declared.fault.Fault.{Fault}
 use Rattle.hg_save.specs.Record.{reading}
 use Rattle.hg_session.specs.Call.{Fails, IsLeftAlone, Watched}
-use Rattle.hg_session.specs.Kept.{KeepsLent}
 use Rattle.hg_session.specs.Manifests.{AsksManifests, IsReparented, StopsParents}
 use Rattle.hg_session.specs.declared.acting.Changing.{Changing}
 use Rattle.hg_session.specs.declared.acting.Changing.TheVariants as a_change
 use Rattle.hg_shelf.specs.History as shelf
-use Rattle.hg_session.specs.Told.{OnlyRefuses, Told, refusing}
+use Rattle.hg_session.specs.Told.{OnlyRefuses, Told}
 use Rattle.hg_shelf.specs.Images.{Course, Scene, scene}
 use Rattle.hg_tree.specs.History as tree
 use Rattle.hg_tree.specs.Touched.{ChangesOnly}
@@ -299,22 +295,3 @@ abbrev pub AsksBehind : Command → Watched tree.History → Table → shelf.His
 AsksBehind (a_command.Remove after words) copy loaded old new = (new.asked ≡ old.asked) ⊎ (NeedsSome after words loaded copy × AsksStore (span_of loaded old new))
 AsksBehind (a_command.SetParents p1 p2) copy loaded old new = AsksManifests p1 p2 old new
 AsksBehind command copy loaded old new = new.asked ≡ old.asked
-
--- ---- over a table in memory
-
--- what a command did over a table in memory in which nothing was changed before, at each answer: what it made, or why it stopped; and what it asked
-pub record ActsOn (command : Command) (copy : Watched tree.History) (files : Watched shelf.History) (old new : Held) (result : Result (Vec ℕ Global) OpFault) : Type 0 where
-  pub does : old.changed ≡ false → IfOk result (λ lines. (makes_of command copy files).does (table old) (table new) (refusing lines.items) new.changed)
-  pub stops : old.changed ≡ false → IfErr result (λ fault. (makes_of command copy files).stops (table old) (of_op fault))
-  -- what isn't marked as changed is the same
-  pub same : old.changed ≡ false → OnOk result (new.changed ≡ false → IsSame (table new) (table old))
-  -- each list below which nothing differs is lent still
-  pub lent : OnOk result (KeepsLent old new)
-  pub image : IsOfSameImage old new
-  pub tree : ChangesTree command (table old) copy
-  pub below : shelf.Passes files.old files.new
-  pub asked : IsTrue files.old.told → AsksBehind command copy (table old) files.old files.new
-  -- a device's fault comes only where its count rose; a working copy that failed is told as such
-  pub tree_cause : HasCause copy.before copy.after result (λ e. e ≡ an_op_fault.TreeFailed)
-  pub tree_failed : copy.before < copy.after → result ≡ Err an_op_fault.TreeFailed
-  pub shelf_cause : HasCause files.before files.after result (λ e. e ≡ an_op_fault.ShelfFailed)

@@ -1,5 +1,5 @@
 -- What a command that changes the record answers and leaves, and why.
-use Rattle.std.specs.Prelude.{ℕ, ◌≡◌, ◌+◌, ◌⊎◌, ◌≤◌, ◌<◌, Bool, true, false, List, [], Option, Some, None, Result, Ok, Err, IsTrue}
+use Rattle.std.specs.Prelude.{ℕ, ◌≡◌, ◌+◌, ◌⊎◌, ◌≤◌, ◌<◌, Bool, true, false, [], Option, Some, None, Ok, IsTrue}
 use Rattle.hg_append.specs.declared.encoding.Encoded.{Encoded}
 use Rattle.hg_append.specs.declared.fault.EncodeFault.{EncodeFault}
 use Rattle.hg_append.specs.declared.way.Way.TheVariants as a_way
@@ -10,8 +10,6 @@ use Rattle.hg_entry.specs.Table.{Table}
 use Rattle.hg_nodes.specs.Edits.{IsSame}
 use Rattle.hg_mixed.specs.Held.{Held, table}
 use Rattle.hg_save.specs.Over.{IsEncoded}
-use Rattle.hg_save.specs.declared.publish_fault.PublishFault.{PublishFault}
-use Rattle.hg_save.specs.declared.publish_fault.PublishFault.TheVariants as a_publish_fault
 use Rattle.hg_ops.specs.declared.refusal.OpFault.{OpFault}
 use Rattle.hg_ops.specs.declared.refusal.OpFault.TheVariants as an_op_fault
 use Rattle.hg_append.specs.declared.fault.EncodeFault.TheVariants as an_encode_fault
@@ -92,10 +90,6 @@ abbrev pub WroteOnly : (Scene → Scene → Type 0) → Saved → Type 0
 WroteOnly May saved =
     IsUnwritten saved.old.history saved.new.history
     ⊎ ((stretch : Stretch saved.old.history saved.new.history) × OnlyMay May saved.new stretch.from stretch.to)
-
--- the caller wrote nothing, unless the shelf failed while the lock was called for or a record was published
-abbrev pub FailsOrUnwritten : shelf.History → shelf.History → ChangeFault → Type 0
-FailsOrUnwritten old new fault = (fault ≡ a_change_fault.ShelfFailed) ⊎ IsUnwritten old new
 
 -- what an append asks of the moment over which it is made: what a crash may leave is solid, and others kept what was read
 pub record IsFirm (Does : Makes) (c : Course) (from : ℕ) : Type 0 where
@@ -198,11 +192,6 @@ pub record IsDone (Does : Makes) (files : Watched shelf.History) (saved : Saved)
 
 -- ---- why it met a fault
 
--- why a record wasn't published, among the faults of a change
-abbrev pub of_publish : PublishFault → ChangeFault
-of_publish (a_publish_fault.Encode fault) = a_change_fault.Encode fault
-of_publish a_publish_fault.Failed = a_change_fault.ShelfFailed
-
 -- a fault of a change, as a command tells it
 abbrev pub of_change : ChangeFault → Fault
 of_change (a_change_fault.Read fault) = of_read fault
@@ -210,11 +199,6 @@ of_change (a_change_fault.Op fault) = of_op fault
 of_change (a_change_fault.Encode fault) = of_encode fault
 of_change a_change_fault.Held = a_fault.Held
 of_change a_change_fault.ShelfFailed = a_fault.ShelfFailed
-
--- the one that a change answers, if it does
-abbrev pub fault_of : {A : Type 0} → Result A ChangeFault → Option Fault
-fault_of (Ok done) = None
-fault_of (Err fault) = Some (of_change fault)
 
 -- all that the command says was done, and what it made of the record that was read can't be written over it
 pub record MetUnfit (Does : Makes) (files : Watched shelf.History) (fault : EncodeFault) : Type 0 where
@@ -282,11 +266,6 @@ MayFollowWriting (Some fault) = (fault ≡ a_fault.ShelfFailed) ⊎ ((fault ≡ 
 abbrev pub IsSafe : Makes → Saved → Option Fault → Type 0
 IsSafe Does saved fault = WroteOnly Does.may saved ⊎ (MayFollowWriting fault × Publishes Does saved)
 
--- so it is where the lock is held all along
-abbrev pub IsSafeHeld : Makes → Saved → Option Fault → Type 0
-IsSafeHeld Does saved fault =
-    IsUnwritten saved.old.history saved.new.history ⊎ (MayFollowWriting fault × IsPublished Does saved.new saved.old.history.last saved.new.history.last)
-
 -- ---- the lock
 
 -- the lock was refused, which is counted, nothing was written, and this is so besides
@@ -340,9 +319,3 @@ FailsBehind Does copy files saved fault =
 abbrev pub IsLocked : Makes → Watched tree.History → Watched shelf.History → Saved → Count → Option Fault → Type 0
 IsLocked Does copy files saved locks fault =
     LockEnds (OnlyAnswers copy files fault a_fault.Held) (OnlyAnswers copy files fault a_fault.ShelfFailed) (FailsBehind Does copy files saved fault) files locks
-
--- what is answered once the lock was given back, or couldn't be: the first fault
-abbrev pub once_freed : {A U E : Type 0} → Result A ChangeFault → Result U E → Result A ChangeFault
-once_freed (Err fault) freed = Err fault
-once_freed (Ok done) (Err failed) = Err a_change_fault.ShelfFailed
-once_freed (Ok done) (Ok unit) = Ok done

@@ -1,5 +1,5 @@
 -- What a crash may leave at each moment of a call, also where others publish before or behind its change.
-use Rattle.std.specs.Prelude.{ℕ, ◌≡◌, ◌⊎◌, ◌≤◌, Option, Some, None, Result, Ok, IfSome, IsSomeAnd}
+use Rattle.std.specs.Prelude.{ℕ, ◌≡◌, ◌⊎◌, ◌≤◌, Option, Some, Result, Ok, IfSome, IsSomeAnd}
 use Rattle.hg_append.specs.declared.way.Way.TheVariants as a_way
 use Rattle.hg_append.specs.Loss.{plan_of}
 use Rattle.hg_entry.specs.Table.{Table}

@@ -1,10 +1,9 @@
 -- Where a command meets a fault, and what stands in its streams then; and what every command does that only looks.
-use Rattle.std.specs.Prelude.{ℕ, ◌≡◌, ◌⊎◌, true, false, List, Option, Some, None, Result, Ok, Err, IfErr, IfSome, MatchOption, OnOk}
-use Rattle.hg_report.specs.Fault.{has_line}
+use Rattle.std.specs.Prelude.{ℕ, ◌≡◌, ◌⊎◌, List, Option, None, IfSome}
 use Rattle.hg_report.specs.declared.fault.Fault.{Fault}
 use Rattle.hg_report.specs.declared.fault.Fault.TheVariants as a_fault
 use Rattle.hg_session.specs.Call.{Count, Looked, Saved, Sink}
-use Rattle.hg_session.specs.Put.{IsFaultOrMemory, IsSilent, Puts, PutsFront, PutsThen, Tells}
+use Rattle.hg_session.specs.Put.{IsSilent, Puts, PutsFront, PutsThen, Tells}
 use Rattle.hg_session.specs.Told.{IsText, Told, errors_of}
 use Rattle.hg_shelf.specs.History as shelf
 use Rattle.hg_shelf.specs.Images.{Goes}
@@ -69,27 +68,6 @@ pub record IsShown (look : Look) (out err : Sink) : Type 0 where
   pub says : look.Says said
   pub printed : Puts (IsText said.printed) out
   pub told : Puts (IsText (errors_of said)) err
-
--- the line of a fault isn't told yet
-pub record IsUntold (err : Sink) (fault : Fault) : Type 0 where
-  pub told : has_line fault ≡ true
-  pub silent : IsSilent err
-
--- the fault of what was done, where it met one
-abbrev pub fault_in : {A : Type 0} → Result A Fault → Option Fault
-fault_in (Ok done) = None
-fault_in (Err fault) = Some fault
-
--- what was done before the line of a fault is told
-pub record Shows {A : Type 0} (look : Look) (out err : Sink) (result : Result A Fault) : Type 0 where
-  pub done : OnOk result (IsShown look out err)
-  pub left : IfErr result (λ fault. (stage : Stage) × LeavesAt look out err IsUntold stage fault)
-
--- how a command ends that only looks, by what it did: the line of a fault is told, where it has one
-pub record EndsAs (err : Sink) (done : Result Unit Fault) (code : ℕ) (fault : Option Fault) : Type 0 where
-  pub well : OnOk done ((fault ≡ None) × IsSilent err)
-  pub ill : IfErr done (λ f. ((has_line f ≡ true) × IsFaultOrMemory fault f × IfSome fault (Tells err)) ⊎ ((has_line f ≡ false) × (fault ≡ Some f) × IsSilent err))
-  pub status : MatchOption fault (code ≡ 0) (λ f. code ≡ 255)
 
 -- a command that ended with this fault, or with none
 pub record Concludes (look : Look) (out err : Sink) (fault : Option Fault) : Type 0 where

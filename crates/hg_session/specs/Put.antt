@@ -1,5 +1,5 @@
 -- What was put into a sink, and what is told of a fault.
-use Rattle.std.specs.Prelude.{ℕ, ◌≡◌, ◌⊎◌, Bool, true, false, List, [], Option, Some, IfSome}
+use Rattle.std.specs.Prelude.{ℕ, ◌≡◌, ◌⊎◌, Bool, true, false, List, Option, Some, IfSome}
 use Rattle.hg_base.specs.Fault.{Rose}
 use Rattle.hg_report.specs.Fault.{line_of}
 use Rattle.hg_report.specs.declared.fault.Fault.{Fault}

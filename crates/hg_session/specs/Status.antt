@@ -1,5 +1,5 @@
 -- What a status prints, tells and answers.
-use Rattle.std.specs.Prelude.{ℕ, ◌≡◌, ◌≤◌, ◌<◌, ◌⊎◌, true, List, [], Option, Some, None, Result, Ok, Err, IfOk, IfSome, IsSomeAnd, IsTrue, OnOk}
+use Rattle.std.specs.Prelude.{ℕ, ◌≡◌, ◌≤◌, ◌⊎◌, true, List, [], Option, Some, None, Ok, Err, IfSome, IsSomeAnd, IsTrue}
 use Rattle.hg_base.specs.Fault.{Rose}
 use Rattle.hg_base.specs.declared.id.Id20.{Id20}
 use Rattle.hg_base.specs.declared.stat.Stat.{Stat}
@@ -7,7 +7,6 @@ use Rattle.hg_compare.specs.Alike.{contents_name, is_alike}
 use Rattle.hg_entry.specs.Table.{Table}
 use Rattle.hg_flat.specs.First.{IsBefore}
 use Rattle.hg_flat.specs.Listing.{wants_bytes}
-use Rattle.hg_flat.specs.Needed.{AsksNeeded}
 use Rattle.hg_flat.specs.Parent.{IsServed, manifest_at, row_of}
 use Rattle.hg_flat.specs.Patterns.{Warns, needs_patterns}
 use Rattle.hg_listing.specs.declared.fault.StatusFault.{StatusFault}
@@ -31,19 +30,18 @@ use Rattle.hg_save.specs.Loads.{Try}
 use Rattle.hg_save.specs.Others.{KeepsRecords}
 use Rattle.hg_save.specs.Record.{record_in}
 use Rattle.hg_session.specs.Acts.{Makes, makes_nothing}
-use Rattle.hg_session.specs.Call.{Call, Count, Fails, Looked, Saved, Serves, Sink, Watched}
+use Rattle.hg_session.specs.Call.{Call, Count, Fails, Looked, Saved, Serves, Watched}
 use Rattle.hg_session.specs.Change.{IsReadFirst, IsSafe, IsUnwritten}
 use Rattle.hg_session.specs.Flags.{style_of, wanted_of}
-use Rattle.hg_session.specs.Listed.{AsksBelow, AsksLittle, AsksOver, AsksOwn, AsksPlain, IsAskedAt, IsListable, IsListed, IsListedFor, IsOwn, IsRightFor, ReadsLittle, StatusCause, first_parent, status_over}
+use Rattle.hg_session.specs.Listed.{AsksBelow, AsksLittle, AsksOwn, IsAskedAt, IsListable, IsListed, IsListedFor, IsOwn, IsRightFor, ReadsLittle, StatusCause, first_parent}
 use Rattle.hg_session.specs.Load.{of_read}
-use Rattle.hg_session.specs.Loaded.{IsLoaded, IsUnreadable, MetReading}
-use Rattle.hg_session.specs.Look.{IsCalm, Look, Concludes, OnlyReads, Shows, fault_in, saves_last}
-use Rattle.hg_session.specs.Put.{IsFaultOrMemory, LeavesFront, OnStream, Puts}
+use Rattle.hg_session.specs.Loaded.{IsUnreadable, MetReading}
+use Rattle.hg_session.specs.Look.{Look, Concludes, OnlyReads, saves_last}
+use Rattle.hg_session.specs.Put.{IsFaultOrMemory, LeavesFront, Puts}
 use Rattle.hg_session.specs.Told.{Told, status_of}
 use Rattle.hg_session.specs.Saving.{IsLockedToSave, IsNotedHeld, LastsNoted, noted_makes}
 use Rattle.hg_session.specs.declared.read_fault.ReadFault.{ReadFault}
 use Rattle.hg_shelf.specs.History as shelf
-use Rattle.hg_shelf.specs.Images.{Goes}
 use Rattle.hg_shelf.specs.Polite.{StaysPlain, Undisturbed}
 use Rattle.hg_tree.specs.History as tree
 use Rattle.hg_tree.specs.Honest.{IsHonest}
@@ -80,12 +78,6 @@ pub record IsNotedBy (looked : Looked) (wanted : Wanted) (table : Table) (notes 
 abbrev pub IsNotedByFor : Looked → Wanted → Table → NotesData → Type 0
 IsNotedByFor looked wanted table notes = wants_bytes wanted ≡ true → IsNotedBy looked wanted table notes
 
--- what a listing over a table notes, only what is needed
-pub record IsNotedFor (looked : Looked) (table : Table) (notes : NotesData) : Type 0 where
-  pub needed : AreNeeded table notes
-  pub noted : AreNoted looked.tree.old looked.tree.new notes
-  pub earned : AreEarnedFor looked table notes
-
 -- what a listing over a table came to once it met no fault: the patterns were read and what was compared was there; where nobody else steps, the patterns were
 -- read exactly where they are needed and stand there; and all was noted that a second status needs, path by path whoever else steps
 pub record IsWorked (looked : Looked) (wanted : Wanted) (table : Table) (notes : NotesData) : Type 0 where
@@ -121,7 +113,6 @@ abbrev pub ListingCause : Looked → Wanted → Option Table → Fault → Type 
 ListingCause looked wanted table fault =
     ((f : ReadFault) × (fault ≡ of_read f) × MetReading looked.shelf f) ⊎ ((f : StatusFault) × (fault ≡ of_status f) × IsSomeAnd table (λ t. StatusCause looked wanted t f))
 
-
 -- why saving met a fault: the shelf failed, for whose line there may be no memory, or there was none and nothing was written
 abbrev pub MetSaving : Watched shelf.History → Saved → Fault → Type 0
 MetSaving files saved fault =
@@ -137,18 +128,6 @@ status_look flags looked saved locks table notes = record {
   Printing = OnlyReads saved locks;
   Telling = OnlyReads saved locks;
   Saving = MetSaving looked.shelf saved;
-  order = saves_last;
-}
-
--- the part of it that lists, prints and tells, over a table that was read before
-abbrev pub show_look : StatusFlags → Looked → Table → NotesData → Look
-show_look flags looked table notes = record {
-  Before = λ fault. (f : StatusFault) × (fault ≡ of_status f) × StatusCause looked (wanted_of flags) table f;
-  Ready = IsWorked looked (wanted_of flags) table notes;
-  Says = SaysRows flags looked (Some table);
-  Printing = Unit {0};
-  Telling = Unit {0};
-  Saving = λ fault. ⊥;
   order = saves_last;
 }
 
@@ -214,33 +193,10 @@ IsExpected wanted files moment (Some fault) = IsUnreadable files fault
 
 -- ---- the command
 
--- a listing over a table, its text and its warnings, and what is noted, or a fault, before its line is told
-pub record ShowsTable (flags : StatusFlags) (looked : Looked) (table : Table) (out err : Sink) (result : Result NotesData Fault) : Type 0 where
-  pub tree : tree.Passes looked.tree.old looked.tree.new
-  pub notes : NotesData
-  pub noted : IsNotedFor looked table notes
-  pub shows : Shows (show_look flags looked table notes) out err result
-  pub answered : IfOk result (λ is. is ≡ notes)
-  pub asked : IsTrue looked.tree.old.told → AsksOver table (wanted_of flags) looked.tree
-  pub store : IsTrue looked.shelf.old.told → AsksPlain looked (wanted_of flags) table looked.shelf.old looked.shelf.new
-  pub reads : IsTrue looked.tree.old.told → AsksNeeded (status_over looked (wanted_of flags) table)
-  pub calm : OnOk result (IsCalm looked out err)
-  pub streams : OnStream (fault_in result) (looked.shelf.after ≡ looked.shelf.before)
-  pub tree_failed : looked.tree.before < looked.tree.after → fault_in result ≡ Some a_fault.TreeFailed
-
--- the call, with the files below `.hg` up to a history at which the listing ended, behind which times were saved
-abbrev pub listed_to : shelf.History → Looked → Looked
-listed_to end looked = record looked { shelf = record looked.shelf { new = end } }
-
 -- what a status makes of the record: where a table was read, it with the notes
 abbrev pub noted_in : Watched shelf.History → Option Table → NotesData → Makes
 noted_in files None notes = makes_nothing
 noted_in files (Some table) notes = noted_makes files table notes
-
--- the last try by which a table was read
-abbrev pub ByLoaded : (files : Watched shelf.History) (table : Option Table) → IfSome table (IsLoaded files) → Try → Type 0
-ByLoaded files None loaded tried = ⊥
-ByLoaded files (Some table) loaded tried = (told : IsTrue files.old.told) × (tried ≡ (loaded told).tried.last)
 
 -- what came of the lock: where no table was read it wasn't called for
 abbrev pub IsLockedLast : (Try → Type 0) → Watched shelf.History → Saved → Count → Option Table → NotesData → Option Fault → Type 0
@@ -257,28 +213,6 @@ pub record SavesLast (Own : Try → Type 0) (files : Watched shelf.History) (sav
   -- without a fault the record with the notes is what is recorded where the lock was given back, unless nothing was noted, the lock was refused, or another
   -- docket stood, or what would be written is too large, or no identifier is left
   pub saves : fault ≡ None → IsSomeAnd table (λ t. IsBlank notes ⊎ (Rose locks.before locks.after ⊎ IsNotedHeld Own files.old t notes saved))
-
--- all of a status, or a fault, before its line is told
-pub record DoesStatus (flags : StatusFlags) (looked : Looked) (saved : Saved) (locks : Count) (out err : Sink) (result : Result Unit Fault) : Type 0 where
-  pub end : shelf.History
-  pub passes : shelf.Passes looked.shelf.old end
-  pub later : shelf.Extends end looked.shelf.new
-  pub table : Option Table
-  pub loaded : IfSome table (IsLoaded (listed_to end looked).shelf)
-  pub tree : tree.Passes looked.tree.old looked.tree.new
-  pub notes : NotesData
-  pub shows : Shows (status_look flags (listed_to end looked) saved locks table notes) out err result
-  pub asked : AsksLittle looked (wanted_of flags) table
-  pub reads : ReadsLittle looked (wanted_of flags) table
-  pub below : IsTrue looked.shelf.old.told → AsksBelow looked (wanted_of flags) table
-  pub calm : OnOk result (IsCalm looked out err)
-  pub streams : OnStream (fault_in result) (looked.shelf.after ≡ looked.shelf.before)
-  pub tree_failed : looked.tree.before < looked.tree.after → fault_in result ≡ Some a_fault.TreeFailed
-  pub needed : IfSome table (λ t. AreNeeded t notes)
-  pub noted : AreNoted looked.tree.old looked.tree.new notes
-  pub earned : IfSome table (λ t. AreEarnedFor looked t notes)
-  pub kept : Goes saved.old saved.new
-  pub saving : SavesLast (ByLoaded (listed_to end looked).shelf table loaded) looked.shelf saved locks table notes (fault_in result)
 
 -- a table was read in the call, before the caller made a step, where the files are told
 abbrev pub IsLoadedFirst : Watched shelf.History → Table → Type 0

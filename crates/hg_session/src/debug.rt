@@ -10,7 +10,8 @@ ghost use Rattle.hg_session.specs.Debug.{Prints, ShowsRecord};
 ghost use Rattle.hg_session.specs.Look.{OnlyReads};
 ghost use Rattle.hg_session.specs.Put.{OnStream};
 ghost use Rattle.hg_save.specs.Loads.{Try};
-ghost use Rattle.hg_session.specs.Loaded.{AsksRecord, IsBytesOf, NodesFind, Reads};
+ghost use Rattle.hg_session.specs.Loaded.{AsksRecord};
+ghost use Rattle.hg_session.specs.Reading.{IsBytesOf, NodesFind, Reads};
 ghost use Rattle.hg_session.specs.declared.print_fault.PrintFault.TheVariants as a_print;
 ghost use Rattle.hg_session.specs.declared.read_fault.ReadFault.TheVariants as a_fault;
 

@@ -3,9 +3,9 @@
 ghost use Rattle.std.specs.Prelude.{◌≡◌, ◌⊎◌, ◌<◌, List, Option, ℕ, IfErr, IfOk, IsTrue, MatchOption, None, OnOk, Err};
 ghost use Rattle.hg_session.specs.Acts.{makes_of};
 ghost use Rattle.hg_session.specs.Call.{Count, Sink, counted, saved_by, watched};
-ghost use Rattle.hg_session.specs.Change.{AsksChange, ChangesBehind, FailsOrUnwritten, IsDone, IsLocked, IsSafe, MetLocking, Stretch, fault_of, of_change, once_freed};
+ghost use Rattle.hg_session.specs.Change.{AsksChange, ChangesBehind, IsDone, IsLocked, IsSafe, MetLocking, Stretch, of_change};
+ghost use Rattle.hg_session.specs.Changing.{FailsOrUnwritten, fault_of, once_freed, EndsChange};
 
-ghost use Rattle.hg_session.specs.Ends.{EndsChange};
 ghost use Rattle.hg_session.specs.Loaded.{AsksRecord};
 ghost use Rattle.hg_session.specs.Put.{IsSilent};
 ghost use Rattle.hg_ops.specs.declared.refusal.OpFault.TheVariants as an_op_fault;

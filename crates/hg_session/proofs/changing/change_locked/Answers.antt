@@ -2,8 +2,9 @@
 use Rattle.std.proofs.Common.{Some, None, Err, inl, inr, refl, ap, ◌∙◌}
 use Rattle.std.proofs.lemmas.Result.{err_from_is_err_and}
 use Rattle.hg_ops.specs.declared.refusal.OpFault.{OpFault}
+use Rattle.hg_report.specs.Cause.{of_op}
 use Rattle.hg_session.specs.Acts.{Makes, makes_of}
-use Rattle.hg_session.specs.Anew.{IsOpened}
+use Rattle.hg_session.specs.Reading.{IsOpened}
 use Rattle.hg_session.specs.Call.{Watched}
 use Rattle.hg_session.specs.declared.change_fault.ChangeFault.TheVariants as a_change_fault
 use Rattle.hg_save.proofs.Held.{held_passes, held_then}
@@ -18,6 +19,7 @@ use Rattle.hg_shelf.proofs.Histories.{extends_same, passes_trans}
 use Rattle.hg_shelf.proofs.Scenes.{goes_same, goes_trans, second_part}
 use Rattle.hg_tree.specs.History as tree
 use Rattle.hg_session.proofs.changing.change_locked.Goals as goal
+use Rattle.hg_session.specs.Told.{refusing}
 
 -- ---- the record could not be read
 

@@ -1,7 +1,7 @@
 -- What is told behind a change, as the promises of the command.
 use Rattle.std.proofs.Common.{ℕ, List, ap, ◌∙◌, subst}
 use Rattle.hg_session.proofs.Promises.{ran_done, ran_failed, ran_untold, status_either}
-use Rattle.hg_session.specs.Changed.{status_of}
+use Rattle.hg_session.specs.Told.{status_of}
 use Rattle.hg_session.specs.Put.{IsFaultOrMemory}
 use Rattle.hg_shelf.specs.Images.{course}
 use Rattle.hg_stream.specs.Stream.{Grown, GrownByFront}

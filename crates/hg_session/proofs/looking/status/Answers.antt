@@ -14,11 +14,11 @@ use Rattle.hg_session.proofs.NotesKept.{needed_are_news}
 use Rattle.hg_session.proofs.Readings.{cause_still, loaded_since, loaded_table, met_reading, met_refused, opened_as, opened_nodes, same_as}
 use Rattle.hg_session.proofs.Saves.{saves_earlier}
 use Rattle.hg_session.proofs.Stages.{does_saved, does_unread, does_unsaved, does_unshown, needed_can, noted_as, save_met}
-use Rattle.hg_session.specs.Anew.{IsOpened}
+use Rattle.hg_session.specs.Reading.{IsOpened}
 use Rattle.hg_session.specs.Call.{Count, IsLeftAlone, Looked, Saved}
-use Rattle.hg_session.specs.Saving.{IsOpenedSince, IsTryOf, of_save}
+use Rattle.hg_session.specs.SavingNotes.{IsOpenedSince, IsTryOf, of_save}
 use Rattle.hg_session.specs.Look.{OnlyReads}
-use Rattle.hg_session.specs.Status.{listed_to}
+use Rattle.hg_session.specs.Looking.{listed_to}
 use Rattle.hg_session.proofs.looking.status.Goals as goal
 
 pub returns-in_err-loaded : goal.returns-in_err-loaded
