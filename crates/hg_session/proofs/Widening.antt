@@ -23,7 +23,7 @@ use Rattle.hg_save.specs.Leads.{IsHeld}
 use Rattle.hg_save.specs.Loads.{IsTry, Tries, Try, files_at, found_by, id_by}
 use Rattle.hg_save.specs.Others.{IsFrontOf, named_file, nodes_in}
 use Rattle.hg_save.specs.Record.{data_name, shown_in, id_in, reading}
-use Rattle.hg_save.specs.Saved.{IsExact, IsLatest, ReadsAsBeforeOr, WritesOnly, name_after, used_in}
+use Rattle.hg_save.specs.Saved.{IsExact, IsLatest, ReadsAsBeforeOr, TurnsOnce, WritesOnly, name_after, used_in}
 use Rattle.hg_save.specs.Behind.{IsSolid}
 use Rattle.hg_session.specs.Acts.{Makes}
 use Rattle.hg_session.specs.Call.{Watched}
@@ -296,6 +296,10 @@ module _ (a b c d : Course) (lock : Waits a.history b.history) (unlock : Waits c
           torn_left = λ k f after upto left.
               let was = is.torn_left k f after upto ((to_end k upto).left f left) in
               (was.0, (from_end from near).left was.0 was.1, subst (λ (x : Files). WritesOnly is.new x was.0 f) (sym (to_end from near).shown) was.2);
+          once = λ k after upto.
+              subst (λ (f : Files). TurnsOnce is.new f (scene d k).files (scene d c.history.last).files) (sym (to_end from near).shown)
+              (subst (λ (f : Files). TurnsOnce is.new (scene c from).files f (scene d c.history.last).files) (sym (to_end k upto).shown)
+              (subst (TurnsOnce is.new (scene c from).files (scene c k).files) (sym (to_end c.history.last (omega arith)).shown) (is.once k after upto)));
           shown = λ first fair k after upto. elim (is.shown (λ way. latest (first way)) (λ way. wide.fair c.history d.history r.past from near (fair way)) k after upto) [
             | inl same ↦ inl (reading_wide k upto ∙ same ∙ sym (reading_wide from near))
             | inr new ↦ inr (reading_wide k upto ∙ new)

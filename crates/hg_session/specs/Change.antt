@@ -18,7 +18,7 @@ use Rattle.hg_report.specs.declared.fault.Fault.{Fault}
 use Rattle.hg_report.specs.declared.fault.Fault.TheVariants as a_fault
 use Rattle.hg_save.specs.Others.{IsFrontOf, KeepsRecords, named_file, nodes_in}
 use Rattle.hg_save.specs.Record.{data_name, shown_in, reading}
-use Rattle.hg_save.specs.Saved.{IsExact, IsLatest, ReadsAsBeforeOr, WritesOnly}
+use Rattle.hg_save.specs.Saved.{IsExact, IsLatest, ReadsAsBeforeOr, TurnsOnce, WritesOnly}
 use Rattle.hg_save.specs.Behind.{IsSolid, KeepsUsed}
 use Rattle.hg_session.specs.Acts.{AsksBehind, ChangesTree, Makes, StandsAt, makes_of}
 use Rattle.hg_session.specs.Call.{Call, Count, Fails, FailsTwice, IsLeftAlone, Saved, Watched}
@@ -128,6 +128,8 @@ pub record IsPublished (Does : Makes) (c : Course) (from to : ℕ) : Type 0 wher
   -- docket as it was; or all is exactly what is written
   pub torn : (k : ℕ) → from ≤ k → k ≤ to → WritesOnly new (scene c from).files (scene c from).files (scene c k).files
   pub torn_left : (k : ℕ) (f : shelf.Files) → from ≤ k → k ≤ to → (scene c k).leaves f → (d : shelf.Files) × (scene c from).leaves d × WritesOnly new (scene c from).files d f
+  -- and no file shows other bytes on its way than those of the first moment and of the second
+  pub once : (k : ℕ) → from ≤ k → k ≤ to → TurnsOnce new (scene c from).files (scene c k).files (scene c to).files
   -- each step of the caller's keeps to how a record is published, and the bytes that dockets use
   pub orderly : IsLatest (scene c from) → (plan_of held ≡ a_way.Append → IsFirm Does c from) → KeepsRecords shelf.us c from
   pub keeping : (plan_of held ≡ a_way.Append → Does.fair c.history from) → KeepsUsed shelf.us c.history from
