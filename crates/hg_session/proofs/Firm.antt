@@ -3,15 +3,16 @@ use Rattle.std.proofs.Common.{ℕ, ◌≡◌, ◌≤◌, Option, Some, None, sym
 use Rattle.hg_entry.specs.Table.{Table}
 use Rattle.hg_report.specs.declared.fault.Fault.{Fault}
 use Rattle.hg_save.specs.Loads.{files_at}
-use Rattle.hg_save.specs.Others.{HasData, KeepData}
+use Rattle.hg_save.specs.Others.{HasData, KeepData, KeepsRecords}
 use Rattle.hg_save.proofs.Spans.{keep_used}
 use Rattle.hg_save.specs.Behind.{IsKeepingUsed, KeepsUsed}
+use Rattle.hg_save.specs.Saved.{IsLatest}
 use Rattle.hg_session.proofs.GoodParts.{from_moment}
 use Rattle.hg_session.proofs.UsedSteps.{used_shorter, using_itself}
 use Rattle.hg_session.specs.Acts.{Makes}
-use Rattle.hg_session.specs.Call.{Watched}
+use Rattle.hg_session.specs.Call.{Saved, Watched}
 use Rattle.hg_session.specs.Change.{IsSafe, NoneOurs, up_to}
-use Rattle.hg_session.specs.Crash.{IsFirmFor, IsFirmGround}
+use Rattle.hg_session.specs.Crash.{IsFirmFor, IsFirmGround, IsSafeBy, IsSafeFromCrashes}
 use Rattle.hg_session.specs.Status.{noted_in}
 use Rattle.hg_shelf.specs.History.{History, Who, others, readers, us}
 use Rattle.hg_shelf.specs.Images.{Course, Goes, last_scene}
@@ -44,3 +45,8 @@ module _ (a b : Course) (ground : IsFirmGround (record { old = a; new = b })) wh
       → NoneOurs b.history a.history.last k → (noted_in files table notes).fair b.history k
   noted_upto files same None notes k later within none = tt
   noted_upto files same (Some t) notes k later within none = subst (KeepData (up_to k b.history)) (sym same) (ground.kept k later within none)
+
+-- so a call is safe from crashes upon such ground
+pub safe_upon : (Does : Makes) (saved : Saved) → IsSafeFromCrashes Does saved → Undisturbed saved.old saved.new → KeepsRecords others saved.new saved.old.history.last → IsLatest (last_scene saved.old) → IsFirmGround saved
+    → IsSafeBy Does saved
+safe_upon Does saved crash calm keep latest ground = crash calm keep latest ground

@@ -11,16 +11,17 @@ use Rattle.hg_save.specs.Others.{HasData, KeepData}
 use Rattle.hg_save.specs.Record.{reading}
 use Rattle.hg_flat.proofs.Arriving.{there_stays}
 use Rattle.hg_session.proofs.Longer.{right_by_end}
-use Rattle.hg_session.specs.Acts.{AllSteps, ChangesTree, Deed, Stepping, TakesAway, makes_of, span_of, steps_of}
-use Rattle.hg_session.specs.Answered.{Ran}
+use Rattle.hg_session.specs.Acts.{AllSteps, ChangesTree, Deed, Makes, Stepping, TakesAway, makes_nothing, makes_of, span_of, steps_of}
+use Rattle.hg_session.specs.Answered.{IsAnswered}
 use Rattle.hg_session.specs.Call.{Call, Count, IsLeftAlone, Looked, Saved, Sink, Watched}
 use Rattle.hg_session.specs.Change.{ChangesBehind, IsUnwritten, NoneOurs, up_to}
 use Rattle.hg_session.specs.Changed.{RanChange}
-use Rattle.hg_session.specs.Good.{IsGoodIn, KeepsGood, OthersKeepStood, ReadsRight, StaysGood}
-use Rattle.hg_session.specs.Look.{IsLook}
+use Rattle.hg_session.specs.Crash.{IsFirmGround, IsSafeFromCrashes}
+use Rattle.hg_session.specs.Good.{IsFair, IsGoodGround, IsGoodIn, KeepsGood, OthersKeepStood, ReadsRight, StaysGood}
 use Rattle.hg_session.specs.Status.{AreEarnedFor, RanStatus, noted_in}
 use Rattle.hg_session.specs.declared.acting.Changing.TheVariants as a_change
 use Rattle.hg_session.proofs.Crashes.{crash_unwritten}
+use Rattle.hg_session.proofs.Firm.{safe_upon}
 use Rattle.hg_session.proofs.GoodParents.{reparented_good}
 use Rattle.hg_session.proofs.GoodStays.{before, good_by, good_stays, one_table}
 use Rattle.hg_session.proofs.GoodParts.{stood_upto}
@@ -120,6 +121,13 @@ pub kept_fair : (saved : Saved) → Goes saved.old saved.new → Undisturbed sav
 kept_fair saved goes calm keep there =
     stood_upto saved.new saved.old.history.last (goes.past.told ∙ calm.told) calm.others keep (subst HasData (sym (goes.kept saved.old.history.last (omega arith)).shown) there)
 
+-- what is good is firm ground, where others keep the data that dockets name
+pub firm_by : (looked : Looked) (saved : Saved) (by : tree.History) → Goes saved.old saved.new → IsFair by looked saved → IsGoodGround by (last_scene saved.old) → IsFirmGround saved
+firm_by looked saved by goes fair ground = record {
+  sound = λ f left. let there = ground.good f left in (there.0, there.1);
+  kept = kept_fair saved goes fair.calm fair.kept ground.there;
+}
+
 -- a call that writes nothing
 pub unwritten_good : (looked : Looked) (saved : Saved) → Goes saved.old saved.new → IsUnwritten saved.old.history saved.new.history → StaysGood looked saved
 unwritten_good looked saved goes none by past fair ground =
@@ -138,23 +146,29 @@ module _ (copy : Watched tree.History) (files : Watched shelf.History) (oversize
   abbrev call : Command → Call
   call command = record { command = command; looked = looked; saved = saved; locks = locks; out = out; err = err }
 
-  look_stays : (command : Command) → IsLook (call command) code fault → StaysGood looked saved
-  look_stays command is by past fair ground =
-      good_by saved.old saved.new is.only.kept fair.calm fair.keep fair.plain fair.parent by fair.published ground.good None (λ r own. absurd own) (is.crash fair.calm fair.keep ground.latest)
+  -- where the moments so far stay, and what it makes of good tables is good
+  makes_stay : (Does : Makes) → Goes saved.old saved.new → IsSafeFromCrashes Does saved
+      → ((by : tree.History) → IsFair by looked saved → IsGoodGround by (last_scene saved.old) → (from : ℕ) → files.old.last ≤ from → from ≤ files.new.last → NoneOurs files.new files.old.last from → Does.fair files.new from)
+      → ((by : tree.History) → tree.Extends copy.new by → IsFair by looked saved → (loaded made : Table) (lines : List ℕ) (changed : Bool) → Does.does loaded made lines changed
+      → IsGoodIn (shelf.now files.new).files loaded by → IsGoodIn (shelf.now files.new).files made by)
+      → StaysGood looked saved
+  makes_stay Does goes crash keeps makes by past fair ground =
+      good_stays saved.old saved.new goes fair.calm fair.keep fair.plain fair.parent by fair.published ground.good (shown (goes.past.told ∙ fair.calm.told)) Does (keeps by fair ground) (makes by past fair)
+      (safe_upon Does saved crash fair.calm fair.keep ground.latest (firm_by looked saved by goes fair ground))
 
-  change_stays : (command : Command) → RanChange (call command) code fault → StaysGood looked saved
-  change_stays command is by past fair ground =
-      good_stays saved.old saved.new is.kept fair.calm fair.keep fair.plain fair.parent by fair.published ground.good (shown (is.kept.past.told ∙ fair.calm.told)) (makes_of command copy files)
-      (λ from after within none. asks_none command copy files files.new from)
-      (λ loaded made lines changed does there. made_good copy files (shelf.now files.new).files is.kept.past fair.calm.told (there_stays files.new files.old.last fair.plain) command by loaded made lines changed does there)
-      fault (is.safe fair.calm) (is.crash fair.calm fair.keep ground.latest)
+  look_stays : Goes saved.old saved.new → IsSafeFromCrashes makes_nothing saved → StaysGood looked saved
+  look_stays goes crash = makes_stay makes_nothing goes crash (λ by fair ground from after within none. tt) (λ by past fair loaded made lines changed does good. absurd does)
 
-  status_stays : (flags : StatusFlags) → RanStatus flags (call (a_command.Status flags)) code fault → StaysGood looked saved
-  status_stays flags ran by past fair ground =
-      good_stays saved.old saved.new ran.saving.kept fair.calm fair.keep fair.plain fair.parent by fair.published ground.good (shown (ran.saving.kept.past.told ∙ fair.calm.told)) (noted_in files ran.table ran.notes)
-      (λ from after within none. noted_fair files ran.table ran.notes files.new from (kept_fair saved ran.saving.kept fair.calm fair.kept ground.there from after within none))
-      (noted_does looked ran.table ran.notes by past ran.earned fair.honest fair.told fair.plain)
-      fault (ran.saving.safe fair.calm) (ran.crash fair.calm fair.keep ground.latest)
+  change_stays : (command : Command) → Goes saved.old saved.new → IsSafeFromCrashes (makes_of command copy files) saved → StaysGood looked saved
+  change_stays command goes crash =
+      makes_stay (makes_of command copy files) goes crash (λ by fair ground from after within none. asks_none command copy files files.new from)
+      (λ by past fair loaded made lines changed does there. made_good copy files (shelf.now files.new).files goes.past fair.calm.told (there_stays files.new files.old.last fair.plain) command by loaded made lines changed does there)
+
+  status_stays : (flags : StatusFlags) (ran : RanStatus flags (call (a_command.Status flags)) code fault) → Goes saved.old saved.new → IsSafeFromCrashes (noted_in files ran.table ran.notes) saved → StaysGood looked saved
+  status_stays flags ran goes crash =
+      makes_stay (noted_in files ran.table ran.notes) goes crash
+      (λ by fair ground from after within none. noted_fair files ran.table ran.notes files.new from (kept_fair saved goes fair.calm fair.kept ground.there from after within none))
+      (λ by past fair. noted_does looked ran.table ran.notes by past ran.earned fair.honest fair.told fair.plain)
 
   reads_right : tree.Extends copy.old copy.new → Goes saved.old saved.new → ReadsRight looked saved
   reads_right past goes fair apart ground t read =
@@ -171,20 +185,21 @@ module _ (copy : Watched tree.History) (files : Watched shelf.History) (oversize
       let right = trusted_are_right (rows_in t store) t copy.old copy.new past fair.honest apart trusted in
       record { end = right; each = λ keeps. right_by_end looked t goes.past.later keeps right }
 
-  look_good : (command : Command) → tree.Extends copy.old copy.new → IsLook (call command) code fault → KeepsGood looked saved
-  look_good command past is = record { past = past; stays = look_stays command is; right = reads_right past is.only.kept }
+  look_good : tree.Extends copy.old copy.new → Goes saved.old saved.new → IsSafeFromCrashes makes_nothing saved → KeepsGood looked saved
+  look_good past goes crash = record { past = past; stays = look_stays goes crash; right = reads_right past goes }
 
-  change_good : (command : Command) → RanChange (call command) code fault → KeepsGood looked saved
-  change_good command is = let past = behind_past command copy files is.copy in record { past = past; stays = change_stays command is; right = reads_right past is.kept }
+  change_good : (command : Command) → RanChange (call command) code fault → Goes saved.old saved.new → IsSafeFromCrashes (makes_of command copy files) saved → KeepsGood looked saved
+  change_good command ran goes crash = let past = behind_past command copy files ran.copy in record { past = past; stays = change_stays command goes crash; right = reads_right past goes }
 
-  -- what a command did keeps what is good
-  pub ran_good : (command : Command) → Ran command (call command) code fault → KeepsGood looked saved
-  ran_good (a_command.Status flags) ran = record { past = ran.tree.past; stays = status_stays flags ran; right = reads_right ran.tree.past ran.saving.kept }
-  ran_good (a_command.Add words) ran = change_good (a_command.Add words) ran
-  ran_good (a_command.Forget words) ran = change_good (a_command.Forget words) ran
-  ran_good (a_command.Remove gone words) ran = change_good (a_command.Remove gone words) ran
-  ran_good (a_command.Copy source target) ran = change_good (a_command.Copy source target) ran
-  ran_good (a_command.SetParents p1 p2) ran = change_good (a_command.SetParents p1 p2) ran
-  ran_good a_command.DebugDirstate ran = look_good a_command.DebugDirstate (alone_past copy ran.alone) ran.look
-  ran_good a_command.DebugScript ran = look_good a_command.DebugScript (alone_past copy ran.undone.idle.copy) ran.look
-  ran_good (a_command.DebugLoad n) ran = look_good (a_command.DebugLoad n) (alone_past copy ran.undone.idle.copy) ran.look
+  -- what a command did and answered keeps what is good
+  pub answered_good : (command : Command) → IsAnswered (call command) code fault → KeepsGood looked saved
+  answered_good (a_command.Status flags) is =
+      record { past = is.ran.tree.past; stays = status_stays flags is.ran is.kept is.crash; right = reads_right is.ran.tree.past is.kept }
+  answered_good (a_command.Add words) is = change_good (a_command.Add words) is.ran is.kept is.crash
+  answered_good (a_command.Forget words) is = change_good (a_command.Forget words) is.ran is.kept is.crash
+  answered_good (a_command.Remove gone words) is = change_good (a_command.Remove gone words) is.ran is.kept is.crash
+  answered_good (a_command.Copy source target) is = change_good (a_command.Copy source target) is.ran is.kept is.crash
+  answered_good (a_command.SetParents p1 p2) is = change_good (a_command.SetParents p1 p2) is.ran is.kept is.crash
+  answered_good a_command.DebugDirstate is = look_good (alone_past copy is.ran.alone) is.kept is.crash
+  answered_good a_command.DebugScript is = look_good (alone_past copy is.ran.undone.idle.copy) is.kept is.crash
+  answered_good (a_command.DebugLoad n) is = look_good (alone_past copy is.ran.undone.idle.copy) is.kept is.crash

@@ -12,14 +12,13 @@ use Rattle.hg_manifest.specs.Plain.{is_null, plain_name}
 use Rattle.hg_manifest.specs.Rows.{Rows}
 use Rattle.hg_manifest.specs.declared.fault.ManifestFault.{ManifestFault}
 use Rattle.hg_manifest.specs.declared.row.FileRow.{FileRow}
-use Rattle.hg_report.specs.declared.fault.Fault.{Fault}
 use Rattle.hg_save.proofs.Published.{left_until, published_later, published_sound}
 use Rattle.hg_save.specs.Others.{KeepsRecords, WasPublished}
 use Rattle.hg_save.specs.Record.{reading}
 use Rattle.hg_session.specs.Acts.{Makes}
 use Rattle.hg_session.specs.Call.{Saved}
-use Rattle.hg_session.specs.Change.{IsSafe, NoneOurs, Publishes}
-use Rattle.hg_session.specs.Crash.{IsCrashSafe, IsFirmFor, IsOwnRecord, published_in}
+use Rattle.hg_session.specs.Change.{NoneOurs, Publishes}
+use Rattle.hg_session.specs.Crash.{IsCrashSafe, IsOwnOf, IsOwnRecord, IsSafeBy}
 use Rattle.hg_session.specs.Good.{HoldsParent, IsGoodIn, IsGoodRecord, IsOfParent, LeavesGood, LeavesParent}
 use Rattle.hg_session.proofs.GoodTables.{table_good, table_same}
 use Rattle.hg_shelf.specs.History.{Files, others}
@@ -179,19 +178,11 @@ module _ (a b : Course) (goes : Goes a b) (calm : Undisturbed a b) (keep : Keeps
         let loaded : IsGoodIn store is.is.loaded h = subst (λ (t : Table). IsGoodIn store t h) same stood.2 in
         table_good store is.is.made is.is.found h (table_same is.is.made is.is.found is.is.is) (makes is.is.loaded is.is.made is.is.lines true is.is.does loaded)
 
-    own_record : (fault : Option Fault) (safe : IsSafe Does saved fault) (r : Option (Result Table RecordFault)) → IsOwnRecord (published_in Does saved fault safe) r → IsGoodRecord store h r
-    own_record fault (inl none) r own = absurd own
-    own_record fault (inr (may, is)) r own = (is.is.found, own, own_good is)
-
-    -- what an append asks besides holds
-    firm_good : (fault : Option Fault) (safe : IsSafe Does saved fault) → IsFirmFor Does saved fault safe
-    firm_good fault (inl none) = tt
-    firm_good fault (inr (may, is)) = λ way. (
-      λ f left. let there = good f left in (there.0, there.1),
-      fair is.stretch.from is.stretch.start (omega (arith, is.stretch.order, is.stretch.end)) is.stretch.before,
-    )
+    -- a table that was published of what the call makes is good
+    own_record : (own : Option Table) → IsOwnOf Does saved own → (r : Option (Result Table RecordFault)) → IsOwnRecord own r → IsGoodRecord store h r
+    own_record None published r is = absurd is
+    own_record (Some table) published r is = (table, is, subst (λ (t : Table). IsGoodIn store t h) published.1 (own_good published.0))
 
     -- at each moment, where the call makes good tables of good ones
-    pub good_stays : (fault : Option Fault) (safe : IsSafe Does saved fault) → (IsFirmFor Does saved fault safe → IsCrashSafe (published_in Does saved fault safe) saved)
-        → (k : ℕ) → start ≤ k → k ≤ b.history.last → LeavesGood h (scene b k)
-    good_stays fault safe crash = good_by (published_in Does saved fault safe) (own_record fault safe) (crash (firm_good fault safe))
+    pub good_stays : IsSafeBy Does saved → (k : ℕ) → start ≤ k → k ≤ b.history.last → LeavesGood h (scene b k)
+    good_stays safe = good_by safe.0 (own_record safe.0 safe.1) safe.2

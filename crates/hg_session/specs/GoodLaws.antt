@@ -4,7 +4,7 @@ use Rattle.hg_entry.specs.Table.{Table}
 use Rattle.hg_nodes.specs.Edits.{IsSame}
 use Rattle.hg_report.specs.declared.fault.Fault.{Fault}
 use Rattle.hg_session.specs.Acts.{makes_of}
-use Rattle.hg_session.specs.Answered.{Ran}
+use Rattle.hg_session.specs.Answered.{IsAnswered}
 use Rattle.hg_session.specs.Call.{Count, Looked, Saved, Sink, Watched, saved_by}
 use Rattle.hg_session.specs.Good.{IsGoodIn, KeepsGood}
 use Rattle.hg_shelf.specs.History as shelf
@@ -28,10 +28,10 @@ NotedIsGood =
     (files : shelf.Files) (t loaded made : Table) (notes : NotesData) (h later : tree.History) → tree.Extends h later → IsSame loaded t → IsSame made (applied notes t)
     → AreEarned (rows_in t files) t later notes → IsGoodIn files loaded h → IsGoodIn files made later
 
--- whatever a command did, it keeps what is good
-abbrev pub RanKeepsGood : {S : Type 0} → (S → shelf.History) → (S → ℕ → Images) → Type 0
-RanKeepsGood {S = S} history images =
+-- whatever a command did and answered, it keeps what is good
+abbrev pub AnsweredKeepsGood : {S : Type 0} → (S → shelf.History) → (S → ℕ → Images) → Type 0
+AnsweredKeepsGood {S = S} history images =
     (command : Command) (copy : Watched tree.History) (old new : S) (before after : ℕ) (oversize locks : Count) (out err : Sink) (code : ℕ) (fault : Option Fault) →
     let looked : Looked = record { tree = copy; shelf = record { old = history old; new = history new; before = before; after = after }; oversize = oversize } in
     let saved : Saved = saved_by history images old new in
-    Ran command (record { command = command; looked = looked; saved = saved; locks = locks; out = out; err = err }) code fault → KeepsGood looked saved
+    IsAnswered (record { command = command; looked = looked; saved = saved; locks = locks; out = out; err = err }) code fault → KeepsGood looked saved
