@@ -1,135 +1,119 @@
--- What holds of each call of a list, and of each turn of a script.
-use Rattle.std.proofs.Common.{ℕ, Bool, true, false, List, [], ◌∷◌, Option, Some, None, sym, subst}
-use Rattle.std.specs.Prelude.{max, MatchBool}
-use Rattle.std.specs.Str.{bytes_eq}
-use Rattle.hg_base.proofs.Runs.{says_each}
-use Rattle.hg_base.specs.Runs as base
-use Rattle.hg_base.specs.Runs.{RunsAll}
-use Rattle.hg_cli.proofs.Lists.{Kept, Premise, Steps, back, each, idle_steps, keeps_data, kept_first, none_before, run_steps}
-use Rattle.hg_cli.specs.Calls.{Calls, CallsSafely, DoesSafely, EachCallIsSafe, IsSafeBetween, devices, made_if, made_turn, made_words, shelf_course}
-use Rattle.hg_cli.specs.Run.{IsRun, made_run, saved_over}
-use Rattle.hg_cli.specs.Script.{Does, DoesWords, IsStopped, Seen, Views, is_script, script_name, seen}
-use Rattle.hg_lines.specs.Script.{words_of}
-use Rattle.hg_lines.specs.Turns.{Line, Refused, RunsScript, Turn}
+-- A run that is said plainly is one that is said safely.
+use Rattle.std.proofs.Common.{ℕ, List, Option, None, inl, inr, sym, subst}
+use Rattle.hg_cli.proofs.Following.{Follows, PartsFollow, call_follows}
+use Rattle.hg_cli.proofs.Lists.{Kept, Steps, back, each, none_before, stay_safe}
+use Rattle.hg_cli.specs.Calls.{Calls, EachCallIsSafe, Leads, OthersKeep, StaySafe, devices}
+use Rattle.hg_cli.specs.Kinds.{kind_of, one_command}
+use Rattle.hg_cli.specs.Run.{Carries, IsRun, IsStopped, made_carried, made_run}
+use Rattle.hg_cli.specs.Said.{plainly, safely}
+use Rattle.hg_cli.specs.Seen.{Seen, Views, saved_over, seen, shelf_course}
 use Rattle.hg_report.specs.declared.fault.Fault.{Fault}
-use Rattle.hg_report.specs.declared.fault.Fault.TheVariants as a_fault
 use Rattle.hg_session.proofs.Crashes.{crash_unwritten}
-use Rattle.hg_session.specs.Acts.{makes_nothing}
+use Rattle.hg_session.specs.Acts.{Makes, makes_nothing}
+use Rattle.hg_session.specs.Call.{Count, Looked, Saved, Sink}
+use Rattle.hg_session.specs.Change.{IsUnwritten}
+use Rattle.hg_session.specs.Crash.{IsSafeBy}
 use Rattle.hg_shelf.proofs.Scenes.{goes_same}
-use Rattle.hg_shelf.specs.Images.{Course}
+use Rattle.hg_shelf.specs.Images.{Course, Goes}
+use Rattle.hg_words.specs.declared.given.Command.{Command}
+use Rattle.hg_words.specs.declared.given.Command.TheVariants as a_command
 
--- what each call of a list that ends at its first fault says, where it keeps a premise
-module _ {C D F : Type 0} (Does : C → D → D → ℕ → Option F → Type 0) (Says : (call : C) (old new : D) (code : ℕ) (fault : Option F) → Does call old new code fault → Type 0) (Premise Kept : D → Type 0)
-    (back : (call : C) (old new : D) (code : ℕ) (fault : Option F) → Does call old new code fault → Premise new → Premise old)
-    (each : (call : C) (old new : D) (code : ℕ) (fault : Option F) (does : Does call old new code fault) → Premise new → Kept old → Says call old new code fault does × Kept new) where
-  abbrev Both : C → D → D → ℕ → Option F → Type 0
-  Both call old new code fault = (does : Does call old new code fault) × Says call old new code fault does
+-- ---- what each part keeps
 
-  held : (calls : List C) (old new : D) (was code : ℕ) → RunsAll Does calls old new was code → Premise new → Premise old
-  held [] old new was code runs premise = subst Premise runs.0 premise
-  held (call ∷ calls) old new was code runs premise =
-      back call old runs.0 runs.1 None runs.2 (held calls runs.0 new (max was runs.1) code runs.3 premise)
+unwritten_steps : (saved : Saved) → Goes saved.old saved.new → IsUnwritten saved.old.history saved.new.history → Steps makes_nothing saved
+unwritten_steps saved goes none = (goes, λ calm keep latest ground. (None, tt, crash_unwritten saved.old saved.new goes calm keep none latest))
 
-  all_say : (calls : List C) (old new : D) (was code : ℕ) → RunsAll Does calls old new was code → Premise new → Kept old → RunsAll Both calls old new was code × Kept new
-  all_say [] old new was code runs premise kept = (runs, subst Kept (sym runs.0) kept)
-  all_say (call ∷ calls) old new was code runs premise kept =
-      let one = each call old runs.0 runs.1 None runs.2 (held calls runs.0 new (max was runs.1) code runs.3 premise) kept in
-      let rest = all_say calls runs.0 new (max was runs.1) code runs.3 premise one.1 in
-      ((runs.0, runs.1, (runs.2, one.0), rest.0), rest.1)
+stopped_steps : (met : Fault) (part : Seen) (code : ℕ) (fault : Option Fault) → IsStopped met part code fault → Steps makes_nothing part.saved
+stopped_steps met part code fault stopped = unwritten_steps part.saved stopped.idle.kept stopped.idle.unwritten
 
-  held_by : (all : List C) (old new : D) (code : ℕ) (fault : Option F) → base.Runs Does all old new code fault → Premise new → Premise old
-  held_by all old new code None runs premise = held all old new 0 code runs premise
-  held_by all old new code (Some fault) runs premise =
-      held runs.earlier old runs.mid 0 runs.status runs.before (back runs.one runs.mid new code (Some fault) runs.met premise)
+carried_steps : (command : Command) (part : Seen) (code : ℕ) (fault : Option Fault) (is : Carries command part code fault) → Steps (made_carried command part code fault is) part.saved
+carried_steps (a_command.Status flags) part code fault answered = (answered.kept, answered.crash)
+carried_steps (a_command.Add files) part code fault answered = (answered.kept, answered.crash)
+carried_steps (a_command.Forget files) part code fault answered = (answered.kept, answered.crash)
+carried_steps (a_command.Remove after files) part code fault answered = (answered.kept, answered.crash)
+carried_steps (a_command.Copy source target) part code fault answered = (answered.kept, answered.crash)
+carried_steps (a_command.SetParents p1 p2) part code fault answered = (answered.kept, answered.crash)
+carried_steps a_command.DebugDirstate part code fault answered = (answered.kept, answered.crash)
+carried_steps a_command.DebugScript part code fault answered = (answered.kept, answered.crash)
+carried_steps (a_command.DebugLoad n) part code fault loaded = unwritten_steps part.saved loaded.untouched.kept loaded.untouched.unwritten
 
-  say_by : (all : List C) (old new : D) (code : ℕ) (fault : Option F) → base.Runs Does all old new code fault → Premise new → Kept old → base.Runs Both all old new code fault × Kept new
-  say_by all old new code None runs premise kept = all_say all old new 0 code runs premise kept
-  say_by all old new code (Some fault) runs premise kept =
-      let before = back runs.one runs.mid new code (Some fault) runs.met premise in
-      let first = all_say runs.earlier old runs.mid 0 runs.status runs.before before kept in
-      let last = each runs.one runs.mid new code (Some fault) runs.met premise first.1 in (
-        record { earlier = runs.earlier; one = runs.one; later = runs.later; whole = runs.whole; mid = runs.mid; status = runs.status; before = first.0; met = (runs.met, last.0) },
-        last.1,
-      )
+run_steps : (words : List (List ℕ)) (part : Seen) (code : ℕ) (fault : Option Fault) (run : IsRun words part code fault) → Steps (made_run words part code fault run) part.saved
+run_steps words part code fault (inl (command, is, carried)) = carried_steps command part code fault carried
+run_steps words part code fault (inr unread) = stopped_steps _ part code fault unread.undone
 
 -- where nothing is done
 same_steps : (c : Course) → Steps makes_nothing (record { old = c; new = c })
-same_steps c =
-    (goes_same c, λ calm keep latest ground. (None, tt, crash_unwritten c c (goes_same c) calm keep (record { none = λ k after before who. none_before k c.history.last after before }) latest))
+same_steps c = unwritten_steps (record { old = c; new = c }) (goes_same c) (record { none = λ k after before who. none_before k c.history.last after before })
+
+-- ---- a run of each kind
+
+-- what is seen between two states, of which the files below `.hg` have a course
+module _ {D : Type 0} (course_of : D → Course) (looked : D → D → Looked) (locks : D → D → Count) (out err : D → D → Sink) (first : Course) where
+  abbrev seen_by : D → D → Seen
+  seen_by old new = record { looked = looked old new; saved = saved_over course_of old new; locks = locks old new; out = out old new; err = err old new }
+
+  abbrev pub Before : D → Type 0
+  Before now = OthersKeep first (course_of now)
+
+  abbrev pub Behind : D → Type 0
+  Behind now = Kept first (course_of now)
+
+  -- what keeps the moments so far, and what a crash may leave, is safe
+  by_steps : (Does : D → D → ℕ → Option Fault → Type 0) (made : (old new : D) (code : ℕ) (fault : Option Fault) → Does old new code fault → Makes)
+      → ((old new : D) (code : ℕ) (fault : Option Fault) (does : Does old new code fault) → Steps (made old new code fault does) (saved_over course_of old new))
+      → Follows Before Behind Does (λ old new code fault. (does : Does old new code fault) × IsSafeBy (made old new code fault does) (saved_over course_of old new))
+  by_steps Does made steps = record {
+    back = λ old new code fault does. back first (made old new code fault does) (course_of old) (course_of new) (steps old new code fault does);
+    each = λ old new code fault does premise kept.
+        let says = each first (made old new code fault does) (course_of old) (course_of new) (steps old new code fault does) premise kept in
+        ((does, says.0), says.1);
+  }
+
+  parts_follow : PartsFollow Before Behind (plainly seen_by) (safely seen_by)
+  parts_follow = record {
+    rests = by_steps (plainly seen_by).Rests (λ old new code fault does. makes_nothing)
+        (λ old new code fault does. subst (λ (d : D). Steps makes_nothing (saved_over course_of old d)) (sym does.0) (same_steps (course_of old)));
+    runs = λ words. by_steps ((plainly seen_by).Runs words) (λ old new code fault run. made_run words (seen_by old new) code fault run)
+        (λ old new code fault run. run_steps words (seen_by old new) code fault run);
+    stops = λ met. by_steps ((plainly seen_by).Stops met) (λ old new code fault does. makes_nothing)
+        (λ old new code fault does. stopped_steps met (seen_by old new) code fault does);
+  }
+
+-- ---- lists
 
 module _ {T S G O E : Type 0} (views : Views T S G O E) where
-  stopped_or_run : (is : Bool) (met : Fault) (words : List (List ℕ)) (part : Seen) (code : ℕ) (fault : Option Fault)
-      (does : MatchBool is (IsStopped met part code fault) (IsRun words part.looked part.saved part.locks part.out part.err code fault))
-      → Steps (made_if (IsStopped met part code fault) (IsRun words part.looked part.saved part.locks part.out part.err code fault) (λ run. made_run run) is does) part.saved
-  stopped_or_run true met words part code fault does = idle_steps part.looked part.saved part.locks part.out does.idle
-  stopped_or_run false met words part code fault does = run_steps words part.looked part.saved part.locks part.out part.err code fault does
+  abbrev Devices : Type 0
+  Devices = T × S × G × O × E
 
-  words_steps : (number : ℕ) (words : List (List ℕ)) (old new : T × S × G × O × E) (code : ℕ) (fault : Option Fault) (does : DoesWords (seen views) number words old new code fault)
-      → Steps (made_words (seen views) number words old new code fault does) (saved_over (shelf_course views) old.1 new.1)
-  words_steps number [] old new code fault does =
-      subst (λ (d : T × S × G × O × E). Steps makes_nothing (saved_over (shelf_course views) old.1 d.1)) (sym does.0) (same_steps (shelf_course views old.1))
-  words_steps number (name ∷ words) old new code fault does =
-      stopped_or_run (bytes_eq name script_name) (a_fault.ScriptNested number) (name ∷ words) (seen views old new) code fault does
+  abbrev course_in : Devices → Course
+  course_in d = shelf_course views d.1
 
-  turn_steps : (turn : Turn) (old new : T × S × G × O × E) (code : ℕ) (fault : Option Fault) (does : Does (seen views) turn old new code fault)
-      → Steps (made_turn (seen views) turn old new code fault does) (saved_over (shelf_course views) old.1 new.1)
-  turn_steps (Line number line) old new code fault does = words_steps number (words_of line) old new code fault does
-  turn_steps (Refused met) old new code fault does =
-      idle_steps (seen views old new).looked (seen views old new).saved (seen views old new).locks (seen views old new).out does.idle
-
-  module _ (first : S) where
-    abbrev Before : T × S × G × O × E → Type 0
-    Before now = Premise (shelf_course views) first now.1
-
-    abbrev Behind : T × S × G × O × E → Type 0
-    Behind now = Kept (shelf_course views) first now.1
-
-    turn_back : (turn : Turn) (old new : T × S × G × O × E) (code : ℕ) (fault : Option Fault) → Does (seen views) turn old new code fault → Before new → Before old
-    turn_back turn old new code fault does = back (shelf_course views) first (made_turn (seen views) turn old new code fault does) old.1 new.1 (turn_steps turn old new code fault does)
-
-    abbrev Says : (turn : Turn) (old new : T × S × G × O × E) (code : ℕ) (fault : Option Fault) → Does (seen views) turn old new code fault → Type 0
-    Says turn old new code fault does = IsSafeBetween views (made_turn (seen views) turn old new code fault does) old new
-
-    turn_each : (turn : Turn) (old new : T × S × G × O × E) (code : ℕ) (fault : Option Fault) (does : Does (seen views) turn old new code fault) → Before new → Behind old
-        → Says turn old new code fault does × Behind new
-    turn_each turn old new code fault does = each (shelf_course views) first (made_turn (seen views) turn old new code fault does) old.1 new.1 (turn_steps turn old new code fault does)
-
-    script_back : (from to : Option (List ℕ)) (old new : T × S × G × O × E) (code : ℕ) (fault : Option Fault) → RunsScript (Does (seen views)) from to old new code fault → Before new → Before old
-    script_back from to old new code fault ran premise =
-        held_by (Does (seen views)) Says Before Behind turn_back turn_each ran.turns old new code fault ran.runs premise
-
-    script_each : (from to : Option (List ℕ)) (old new : T × S × G × O × E) (code : ℕ) (fault : Option Fault) → RunsScript (Does (seen views)) from to old new code fault → Before new → Behind old
-        → RunsScript (DoesSafely views) from to old new code fault × Behind new
-    script_each from to old new code fault ran premise kept =
-        let says = say_by (Does (seen views)) Says Before Behind turn_back turn_each ran.turns old new code fault ran.runs premise kept in
-        (record { turns = ran.turns; runs = says.0; fit = ran.fit; told = ran.told; end = ran.end }, says.1)
-
-    call_back : (is : Bool) (words : List (List ℕ)) (from to : Option (List ℕ)) (old new : T × S × G × O × E) (code : ℕ) (fault : Option Fault)
-        → MatchBool is (RunsScript (Does (seen views)) from to old new code fault)
-        (IsRun words (seen views old new).looked (seen views old new).saved (seen views old new).locks (seen views old new).out (seen views old new).err code fault) → Before new → Before old
-    call_back true words from to old new code fault does premise = script_back from to old new code fault does premise
-    call_back false words from to old new code fault does premise =
-        back (shelf_course views) first (made_run does) old.1 new.1
-        (run_steps words (seen views old new).looked (seen views old new).saved (seen views old new).locks (seen views old new).out (seen views old new).err code fault does) premise
-
-    call_each : (is : Bool) (words : List (List ℕ)) (from to : Option (List ℕ)) (old new : T × S × G × O × E) (code : ℕ) (fault : Option Fault)
-        → MatchBool is (RunsScript (Does (seen views)) from to old new code fault)
-        (IsRun words (seen views old new).looked (seen views old new).saved (seen views old new).locks (seen views old new).out (seen views old new).err code fault) → Before new → Behind old
-        → MatchBool is (RunsScript (DoesSafely views) from to old new code fault)
-        ((run : IsRun words (seen views old new).looked (seen views old new).saved (seen views old new).locks (seen views old new).out (seen views old new).err code fault)
-        × IsSafeBetween views (made_run run) old new)
-        × Behind new
-    call_each true words from to old new code fault does premise kept = script_each from to old new code fault does premise kept
-    call_each false words from to old new code fault does premise kept =
-        let says =
-        each (shelf_course views) first (made_run does) old.1 new.1
-        (run_steps words (seen views old new).looked (seen views old new).saved (seen views old new).locks (seen views old new).out (seen views old new).err code fault does) premise kept in
-        ((does, says.0), says.1)
+  views_follow : (first : S) → PartsFollow (λ (d : Devices). OthersKeep (shelf_course views first) (course_in d)) (λ (d : Devices). Kept (shelf_course views first) (course_in d)) (plainly (seen views)) (safely (seen views))
+  views_follow first =
+      parts_follow course_in (λ old new. (seen views old new).looked) (λ old new. (seen views old new).locks) (λ old new. (seen views old new).out) (λ old new. (seen views old new).err)
+      (shelf_course views first)
 
   pub each_call_is_safe : EachCallIsSafe views
-  each_call_is_safe calls first last shelf premise runs =
-      let says = says_each (Calls views) (CallsSafely views) (Premise (shelf_course views) first) (Kept (shelf_course views) first)
-      (λ call old new does. call_back first (is_script call.words) call.words call.from call.to (devices call.old old) (devices call.new new) call.code call.fault does)
-      (λ call old new does. call_each first (is_script call.words) call.words call.from call.to (devices call.old old) (devices call.new new) call.code call.fault does)
-      calls first last runs premise (kept_first (shelf_course views) first shelf) in
-      (says.0, says.1.2, keeps_data (shelf_course views) first last premise says.1)
+  each_call_is_safe =
+      stay_safe (shelf_course views) (Calls (plainly (seen views))) (Calls (safely (seen views)))
+      (λ first call old new does premise.
+      (call_follows (λ (d : Devices). OthersKeep (shelf_course views first) (course_in d)) (λ (d : Devices). Kept (shelf_course views first) (course_in d)) (plainly (seen views)) (safely (seen views)) (views_follow first) (kind_of call.words) call.words call.from call.to).back
+      (devices call.old old) (devices call.new new) call.code call.fault does premise)
+      (λ first call old new does premise kept.
+      (call_follows (λ (d : Devices). OthersKeep (shelf_course views first) (course_in d)) (λ (d : Devices). Kept (shelf_course views first) (course_in d)) (plainly (seen views)) (safely (seen views)) (views_follow first) (kind_of call.words) call.words call.from call.to).each
+      (devices call.old old) (devices call.new new) call.code call.fault does premise kept)
+
+-- a command by itself, whatever the other devices
+module _ {S : Type 0} (course_of : S → Course) where
+  run_back : (first : S) (words : List (List ℕ)) (old new : S) → Leads plainly course_of words old new → OthersKeep (course_of first) (course_of new) → OthersKeep (course_of first) (course_of old)
+  run_back first words old new (looked, locks, out, err, code, fault, run) premise =
+      ((parts_follow course_of (λ a b. looked) (λ a b. locks) (λ a b. out) (λ a b. err) (course_of first)).runs words).back old new code fault run premise
+
+  run_each : (first : S) (words : List (List ℕ)) (old new : S) → Leads plainly course_of words old new → OthersKeep (course_of first) (course_of new) → Kept (course_of first) (course_of old)
+      → Leads safely course_of words old new × Kept (course_of first) (course_of new)
+  run_each first words old new (looked, locks, out, err, code, fault, run) premise kept =
+      let says = ((parts_follow course_of (λ a b. looked) (λ a b. locks) (λ a b. out) (λ a b. err) (course_of first)).runs words).each old new code fault run premise kept in
+      ((looked, locks, out, err, code, fault, says.0), says.1)
+
+  pub each_run_is_safe : StaySafe course_of (Leads plainly course_of) (Leads safely course_of)
+  each_run_is_safe = stay_safe course_of (Leads plainly course_of) (Leads safely course_of) run_back run_each

@@ -1,10 +1,10 @@
 -- What was carried out, by the command.
 use Rattle.std.proofs.Common.{ℕ, ◌≡◌, List, Option, Ok, refl}
-use Rattle.hg_cli.specs.Load.{IsLoadable}
-use Rattle.hg_cli.specs.Run.{Carries}
+use Rattle.hg_cli.specs.Carrying.{IsLoadable}
+use Rattle.hg_cli.specs.Run.{Carries, call_of}
+use Rattle.hg_cli.specs.Seen.{Seen}
 use Rattle.hg_report.specs.declared.fault.Fault.{Fault}
 use Rattle.hg_session.specs.Answered.{IsAnswered}
-use Rattle.hg_session.specs.Call.{Count, Looked, Saved, Sink}
 use Rattle.hg_words.proofs.Ranged.{load_range}
 use Rattle.hg_words.specs.Command.{command_of}
 use Rattle.hg_words.specs.declared.given.Command.{Command}
@@ -22,11 +22,9 @@ loadable words a_command.DebugDirstate is = tt
 loadable words a_command.DebugScript is = tt
 loadable words (a_command.DebugLoad n) is = load_range words n is
 
-module _ (looked : Looked) (saved : Saved) (locks : Count) (out err : Sink) (code : ℕ) (fault : Option Fault) where
+module _ (part : Seen) (code : ℕ) (fault : Option Fault) where
   -- a command that is no load is carried out by itself
-  pub by_itself : (command : Command) → ((n : ℕ) → command ≡ a_command.DebugLoad n → ⊥)
-      → IsAnswered (record { command = command; looked = looked; saved = saved; locks = locks; out = out; err = err }) code fault
-      → Carries command looked saved locks out err code fault
+  pub by_itself : (command : Command) → ((n : ℕ) → command ≡ a_command.DebugLoad n → ⊥) → IsAnswered (call_of command part) code fault → Carries command part code fault
   by_itself (a_command.Status flags) other answered = answered
   by_itself (a_command.Add files) other answered = answered
   by_itself (a_command.Forget files) other answered = answered

@@ -1,17 +1,16 @@
 -- A call of the program, a script too, leads from good records to good ones, and so does every list of calls.
-use Rattle.std.proofs.Common.{ℕ, ◌≤◌, Bool, true, false, List, [], ◌∷◌, Option, Some, None, refl, sym, ap, ◌∙◌, subst, arith, inl, inr}
-use Rattle.std.specs.Prelude.{IsTrue, MatchBool}
-use Rattle.std.specs.Str.{bytes_eq}
-use Rattle.hg_base.proofs.Runs.{keeps_all, says_each}
+use Rattle.std.proofs.Common.{ℕ, ◌≤◌, List, Option, Some, None, refl, sym, ap, ◌∙◌, subst, arith, inl, inr}
+use Rattle.std.specs.Prelude.{IsTrue}
+use Rattle.hg_base.proofs.Runs.{says_each}
+use Rattle.hg_cli.proofs.Following.{Follows, PartsFollow, call_follows}
 use Rattle.hg_cli.proofs.Good.{LeadsOn, leads_both}
-use Rattle.hg_cli.specs.Calls.{Given, devices, shelf_course}
+use Rattle.hg_cli.specs.Calls.{Given, devices}
 use Rattle.hg_cli.specs.Good.{Between, CallsFairly, CallsGood, EachCallIsGood, IsBegunUpon, IsGoodShelf}
-use Rattle.hg_cli.specs.Run.{Carries, IsRun}
-use Rattle.hg_cli.specs.Script.{Does, DoesWords, IsStopped, RunsWords, Views, is_script, script_name, seen}
-use Rattle.hg_lines.specs.Script.{words_of}
-use Rattle.hg_lines.specs.Turns.{Line, Refused, RunsScript, Turn}
+use Rattle.hg_cli.specs.Kinds.{ServesWords, kind_of}
+use Rattle.hg_cli.specs.Run.{Carries, IsRun, IsStopped, call_of}
+use Rattle.hg_cli.specs.Said.{plainly}
+use Rattle.hg_cli.specs.Seen.{Seen, Views, seen, shelf_course}
 use Rattle.hg_report.specs.declared.fault.Fault.{Fault}
-use Rattle.hg_report.specs.declared.fault.Fault.TheVariants as a_fault
 use Rattle.hg_entry.specs.Table.{Table}
 use Rattle.hg_save.proofs.Names.{never_itself}
 use Rattle.hg_save.proofs.Solid.{sound_data}
@@ -20,13 +19,14 @@ use Rattle.hg_save.specs.Others.{HasData}
 use Rattle.hg_save.specs.Record.{id_in, reading}
 use Rattle.hg_save.specs.Saved.{name_after, used_in}
 use Rattle.hg_session.proofs.Crashes.{crash_unwritten}
-use Rattle.hg_session.proofs.GoodCalls.{alone_past, kept_fair, ran_good, unwritten_good}
+use Rattle.hg_session.proofs.Firm.{safe_upon}
+use Rattle.hg_session.proofs.GoodCalls.{alone_past, answered_good, firm_by, unwritten_good}
 use Rattle.hg_session.proofs.GoodParts.{there_upto}
 use Rattle.hg_session.proofs.GoodStays.{good_later}
-use Rattle.hg_session.specs.Answered.{IsAnswered, IsIdle}
-use Rattle.hg_session.specs.Call.{Call, Count, IsLeftAlone, Looked, Saved, Sink}
+use Rattle.hg_session.specs.Answered.{IsAnswered, made_by}
+use Rattle.hg_session.specs.Call.{IsLeftAlone, Looked, Saved}
 use Rattle.hg_session.specs.Change.{IsUnwritten}
-use Rattle.hg_session.specs.Crash.{IsCrashSafe, IsFirmGround}
+use Rattle.hg_session.specs.Crash.{IsCrashSafe}
 use Rattle.hg_session.specs.Good.{IsFair, IsGoodGround, IsGoodRecord, KeepsGood, LeavesGood}
 use Rattle.hg_shelf.proofs.Scenes.{goes_same}
 use Rattle.hg_shelf.specs.History.{Files}
@@ -60,15 +60,8 @@ unwritten_leads looked saved alone goes none = record {
   good = unwritten_good looked saved goes none;
 }
 
--- what is good is firm ground, where others keep the data that dockets name
-firm_by : (looked : Looked) (saved : Saved) (by : tree.History) → Goes saved.old saved.new → IsFair by looked saved → IsGoodGround by (last_scene saved.old) → IsFirmGround saved
-firm_by looked saved by goes fair ground = record {
-  sound = λ f left. let there = ground.good f left in (there.0, there.1);
-  kept = kept_fair saved goes fair.calm fair.kept ground.there;
-}
-
-pub idle_leads : (looked : Looked) (saved : Saved) (locks : Count) (out : Sink) → IsIdle looked saved locks out → LeadsOn looked saved
-idle_leads looked saved locks out idle = unwritten_leads looked saved idle.copy idle.kept idle.unwritten
+stopped_leads : (met : Fault) (part : Seen) (code : ℕ) (fault : Option Fault) → IsStopped met part code fault → LeadsOn part.looked part.saved
+stopped_leads met part code fault stopped = unwritten_leads part.looked part.saved stopped.idle.copy stopped.idle.kept stopped.idle.unwritten
 
 -- ---- a call of the program
 
@@ -94,38 +87,24 @@ module _ {T S G O E : Type 0} (views : Views T S G O E)
       (seen views first old).looked.oversize (seen views old new).looked.oversize (seen views first new).looked.oversize
       one.past two.past one.goes two.goes one two
 
-  abbrev Runs : List (List ℕ) → Devices → Devices → ℕ → Option Fault → Type 0
-  Runs words old new code fault =
-      IsRun words (seen views old new).looked (seen views old new).saved (seen views old new).locks (seen views old new).out (seen views old new).err code fault
-
-  abbrev call_of : Command → Devices → Devices → Call
-  call_of command old new = record {
-    command = command;
-    looked = (seen views old new).looked;
-    saved = (seen views old new).saved;
-    locks = (seen views old new).locks;
-    out = (seen views old new).out;
-    err = (seen views old new).err;
-  }
-
   -- a command that was answered
-  answered_leads : (command : Command) (old new : Devices) (code : ℕ) (fault : Option Fault) → IsAnswered (call_of command old new) code fault → Leads old new
+  answered_leads : (command : Command) (old new : Devices) (code : ℕ) (fault : Option Fault) → IsAnswered (call_of command (seen views old new)) code fault → Leads old new
   answered_leads command old new code fault answered =
       let good : KeepsGood (seen views old new).looked (seen views old new).saved =
-      ran_good (seen views old new).looked.tree (seen views old new).looked.shelf (seen views old new).looked.oversize (seen views old new).locks (views.images old.1) (views.images new.1)
-      (seen views old new).out (seen views old new).err code fault (shown new.1) command answered.ran in
+      answered_good (seen views old new).looked.tree (seen views old new).looked.shelf (seen views old new).looked.oversize (seen views old new).locks (views.images old.1) (views.images new.1)
+      (seen views old new).out (seen views old new).err code fault (shown new.1) command answered in
       record {
         past = good.past;
         goes = answered.kept;
         ground = λ by past fair ground.
-            let safe = answered.crash fair.calm fair.keep ground.latest (firm_by (seen views old new).looked (seen views old new).saved by answered.kept fair ground) in
+            let safe = safe_upon (made_by command (call_of command (seen views old new)) code fault answered.ran) (seen views old new).saved answered.crash fair.calm fair.keep ground.latest
+            (firm_by (seen views old new).looked (seen views old new).saved by answered.kept fair ground) in
             ground_by (seen views old new).looked (seen views old new).saved safe.0 by answered.kept fair ground safe.2
             (good.stays by past fair ground (shelf_course views new.1).history.last answered.kept.past.later (omega arith));
         good = good.stays;
       }
 
-  carried_leads : (command : Command) (old new : Devices) (code : ℕ) (fault : Option Fault)
-      → Carries command (seen views old new).looked (seen views old new).saved (seen views old new).locks (seen views old new).out (seen views old new).err code fault → Leads old new
+  carried_leads : (command : Command) (old new : Devices) (code : ℕ) (fault : Option Fault) → Carries command (seen views old new) code fault → Leads old new
   carried_leads (a_command.Status flags) old new code fault answered = answered_leads (a_command.Status flags) old new code fault answered
   carried_leads (a_command.Add files) old new code fault answered = answered_leads (a_command.Add files) old new code fault answered
   carried_leads (a_command.Forget files) old new code fault answered = answered_leads (a_command.Forget files) old new code fault answered
@@ -137,38 +116,31 @@ module _ {T S G O E : Type 0} (views : Views T S G O E)
   carried_leads (a_command.DebugLoad n) old new code fault loaded =
       unwritten_leads (seen views old new).looked (seen views old new).saved loaded.untouched.copy loaded.untouched.kept loaded.untouched.unwritten
 
-  run_leads : (words : List (List ℕ)) (old new : Devices) (code : ℕ) (fault : Option Fault) → Runs words old new code fault → Leads old new
+  run_leads : (words : List (List ℕ)) (old new : Devices) (code : ℕ) (fault : Option Fault) → IsRun words (seen views old new) code fault → Leads old new
   run_leads words old new code fault (inl (command, is, carried)) = carried_leads command old new code fault carried
-  run_leads words old new code fault (inr unread) = idle_leads (seen views old new).looked (seen views old new).saved (seen views old new).locks (seen views old new).out unread.undone.idle
+  run_leads words old new code fault (inr unread) = stopped_leads _ (seen views old new) code fault unread.undone
 
-  stopped_or_run : (is : Bool) (met : Fault) (words : List (List ℕ)) (old new : Devices) (code : ℕ) (fault : Option Fault)
-      → MatchBool is (IsStopped met (seen views old new) code fault) (Runs words old new code fault) → Leads old new
-  stopped_or_run true met words old new code fault does = idle_leads (seen views old new).looked (seen views old new).saved (seen views old new).locks (seen views old new).out does.idle
-  stopped_or_run false met words old new code fault does = run_leads words old new code fault does
+  -- what leads on from one state leads on from those before it
+  abbrev Unasked : Devices → Type 0
+  Unasked now = Unit {0}
 
-  words_lead : (number : ℕ) (words : List (List ℕ)) (old new : Devices) (code : ℕ) (fault : Option Fault) → DoesWords (seen views) number words old new code fault → Leads old new
-  words_lead number [] old new code fault does = subst (Leads old) (sym does.0) (same_leads old)
-  words_lead number (name ∷ words) old new code fault does =
-      stopped_or_run (bytes_eq name script_name) (a_fault.ScriptNested number) (name ∷ words) old new code fault does
+  by_leads : (first : Devices) (Does : Devices → Devices → ℕ → Option Fault → Type 0) → ((old new : Devices) (code : ℕ) (fault : Option Fault) → Does old new code fault → Leads old new) → Follows Unasked (Leads first) Does Does
+  by_leads first Does leads = record {
+    back = λ old new code fault does premise. tt;
+    each = λ old new code fault does premise kept. (does, leads_on first old new kept (leads old new code fault does));
+  }
 
-  turn_leads : (turn : Turn) (old new : Devices) (code : ℕ) (fault : Option Fault) → Does (seen views) turn old new code fault → Leads old new
-  turn_leads (Line number line) old new code fault does = words_lead number (words_of line) old new code fault does
-  turn_leads (Refused met) old new code fault does =
-      idle_leads (seen views old new).looked (seen views old new).saved (seen views old new).locks (seen views old new).out does.idle
+  parts_lead : (first : Devices) → PartsFollow Unasked (Leads first) (plainly (seen views)) (plainly (seen views))
+  parts_lead first = record {
+    rests = by_leads first (plainly (seen views)).Rests (λ old new code fault does. subst (Leads old) (sym does.0) (same_leads old));
+    runs = λ words. by_leads first ((plainly (seen views)).Runs words) (run_leads words);
+    stops = λ met. by_leads first ((plainly (seen views)).Stops met) (λ old new code fault does. stopped_leads met (seen views old new) code fault does);
+  }
 
-  pub script_leads : (from to : Option (List ℕ)) (old new : Devices) (code : ℕ) (fault : Option Fault) → RunsScript (Does (seen views)) from to old new code fault → Leads old new
-  script_leads from to old new code fault ran =
-      keeps_all (Does (seen views)) (λ d. Unit {0}) (Leads old) (λ turn a b status met does premise. tt)
-      (λ turn a b status met does premise kept. leads_on old a b kept (turn_leads turn a b status met does))
-      ran.turns old new code fault ran.runs tt (same_leads old)
-
-  by_words : (is : Bool) (words : List (List ℕ)) (from to : Option (List ℕ)) (old new : Devices) (code : ℕ) (fault : Option Fault)
-      → MatchBool is (RunsScript (Does (seen views)) from to old new code fault) (Runs words old new code fault) → Leads old new
-  by_words true words from to old new code fault does = script_leads from to old new code fault does
-  by_words false words from to old new code fault does = run_leads words old new code fault does
-
-  pub call_leads : (words : List (List ℕ)) (from to : Option (List ℕ)) (old new : Devices) (code : ℕ) (fault : Option Fault) → RunsWords views words from to old new code fault → Leads old new
-  call_leads words from to old new code fault does = by_words (is_script words) words from to old new code fault does
+  pub call_leads : (words : List (List ℕ)) (from to : Option (List ℕ)) (old new : Devices) (code : ℕ) (fault : Option Fault) → ServesWords (plainly (seen views)) words from to old new code fault → Leads old new
+  call_leads words from to old new code fault does =
+      let says = (call_follows Unasked (Leads old) (plainly (seen views)) (plainly (seen views)) (parts_lead old) (kind_of words) words from to).each old new code fault does tt (same_leads old) in
+      says.1
 
   -- ---- lists of calls
 

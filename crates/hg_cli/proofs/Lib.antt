@@ -1,6 +1,7 @@
 pub mod Calling
 pub mod Carried
 pub mod Counting
+pub mod Following
 pub mod Good
 pub mod GoodLists
 pub mod Letters

@@ -135,7 +135,7 @@ module _ (dirs : ℕ) (old new : Alone) (is : IsCounted dirs old) (text : List �
   full : IsFullText all_letters (files_of old.shelf.shelf) (tree.now copy_old) text
   full =
       prints dirs _ (shelves.images_of old.shelf.shelf) (shelves.images_of new.shelf.shelf) _ status.out status.err refl (honest_still copy_new (still ∙ is.unchanged)) (λ k. refl) refl own is.between
-      status.code status.answered.ran text status.empty status.printed
+      status.code status.answered.kept.past status.answered.ran text status.empty status.printed
 
   lines : dirs ≤ 2000 → (sign each : ℕ) → tally (λ i. eqb (sign_of (letter_of (i % 16))) sign) 16 ≡ each → lines_with sign text ≡ each * dirs
   lines few sign each tallied = text_lines dirs few (files_of old.shelf.shelf) (tree.now copy_old) copy_old is.things is.between text full sign each tallied
@@ -146,7 +146,7 @@ module _ (dirs : ℕ) (old new : Alone) (is : IsCounted dirs old) (text : List �
     things = subst (λ (m : Moment). AreFiles (16 * dirs) m.things) (sym (same_moment copy_old copy_new passes still)) is.things;
     between =
         leaves dirs _ (shelves.images_of old.shelf.shelf) (shelves.images_of new.shelf.shelf) _ status.out status.err refl (honest_still copy_new (still ∙ is.unchanged)) (λ k. refl) refl own is.between
-        status.code status.answered.ran none;
+        status.code status.answered.kept.past status.answered.ran none;
   }
 
   pub numbers_of : dirs ≤ 2000 → (counts : Counts) → AreCounts text counts → AreNumbers dirs counts

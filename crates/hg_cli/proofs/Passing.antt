@@ -233,14 +233,14 @@ module _ (dirs : ℕ) (looked : Looked) (before after : ℕ → Images) (locks :
     next_some Own None loaded needed earned saving none = absurd (saving.saves refl)
     next_some Own (Some t) loaded needed earned saving none = next Own t loaded saving none needed earned
 
-  module _ (code : ℕ) (ran : RanStatus all_letters (record { command = a_command.Status all_letters; looked = looked; saved = saved; locks = locks; out = out; err = err }) code None) where
+  module _ (code : ℕ) (past : shelf.Extends looked.shelf.old looked.shelf.new) (ran : RanStatus all_letters (record { command = a_command.Status all_letters; looked = looked; saved = saved; locks = locks; out = out; err = err }) code None) where
     -- the files that it leaves record the copy, too, where no lock was refused before
     pub leaves : locks.before ≡ 0 → IsBetween dirs (shelf.now looked.shelf.new).files looked.tree.new
-    leaves none = next_some ran.saving.kept.past ran.tree ran.notes (ByLoadedFirst looked.shelf ran.table ran.loaded) ran.table ran.loaded ran.needed ran.earned ran.saving none
+    leaves none = next_some past ran.tree ran.notes (ByLoadedFirst looked.shelf ran.table ran.loaded) ran.table ran.loaded ran.needed ran.earned ran.saving none
 
     -- what it prints is the text of the full listing
     pub prints : (text : List ℕ) → out.old ≡ Some [] → out.new ≡ Some text → IsFullText all_letters there (tree.now looked.tree.old) text
     prints text empty printed =
-        let puts = ran.whole refl own (right_some ran.saving.kept.past ran.tree ran.notes (ByLoadedFirst looked.shelf ran.table ran.loaded) ran.table ran.loaded ran.saving) in
+        let puts = ran.whole refl own (right_some past ran.tree ran.notes (ByLoadedFirst looked.shelf ran.table ran.loaded) ran.table ran.loaded ran.saving) in
         let grown : Some text ≡ Some puts.text = sym printed ∙ puts.put ∙ ap (option_map (λ bytes. bytes ++ puts.text)) empty in
         subst (IsFullText all_letters there (tree.now looked.tree.old)) (sym (ap (text_in text) grown)) puts.is

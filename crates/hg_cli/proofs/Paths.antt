@@ -5,7 +5,8 @@ use Rattle.std.specs.Set.{is_member, unique_keys}
 use Rattle.std.specs.Str.{bytes_eq}
 use Rattle.std.proofs.lemmas.Cmp.{nat_list_eq_equiv}
 use Rattle.std.proofs.lemmas.List.{drop_all}
-use Rattle.hg_cli.specs.Reading.{AreRead, count_read, paths_read}
+use Rattle.hg_cli.specs.Reading.{count_read, paths_read}
+use Rattle.hg_cli.specs.Reads.{AreRead}
 use Rattle.hg_tree.specs.declared.asked.Asked.{Asked}
 use Rattle.hg_tree.specs.declared.asked.Asked.TheVariants as an_ask
 

@@ -1,8 +1,9 @@
 -- What keeps records good over lists of calls of the program, scripts included.
 use Rattle.std.specs.Prelude.{ℕ, ◌≡◌, ◌≤◌, List}
 use Rattle.hg_base.specs.Runs.{RunsEach}
-use Rattle.hg_cli.specs.Calls.{Calls, Given, devices, shelf_course}
-use Rattle.hg_cli.specs.Script.{Seen, Views, seen}
+use Rattle.hg_cli.specs.Calls.{Calls, Given, devices}
+use Rattle.hg_cli.specs.Said.{plainly}
+use Rattle.hg_cli.specs.Seen.{Seen, Views, seen, shelf_course}
 use Rattle.hg_session.specs.Good.{IsFair, IsGoodGround, LeavesGood}
 use Rattle.hg_shelf.specs.History.{Files}
 use Rattle.hg_shelf.specs.Images.{last_scene, scene}
@@ -18,7 +19,7 @@ seen_of views call old new = seen views (devices call.old old) (devices call.new
 
 -- a call leads from one shelf to another, and what it needs of others is kept. They may have changed the working copy since the call before
 pub record CallsFairly {T S G O E : Type 0} (views : Views T S G O E) (call : Given T G O E) (old new : Between S) : Type 0 where
-  pub does : Calls views call old.0 new.0
+  pub does : Calls (plainly (seen views)) call old.0 new.0
   pub since : tree.Extends old.1 (views.tree call.old.tree)
   pub behind : new.1 ≡ views.tree call.new.tree
   pub fair : IsFair (views.tree call.new.tree) (seen_of views call old.0 new.0).looked (seen_of views call old.0 new.0).saved

@@ -1,7 +1,12 @@
 pub mod Calls
+pub mod Carrying
 pub mod Good
+pub mod Kinds
 pub mod Lines
 pub mod Load
 pub mod Reading
+pub mod Reads
 pub mod Run
+pub mod Said
 pub mod Script
+pub mod Seen

@@ -19,7 +19,6 @@ use Rattle.hg_shelf.specs.Images.{Goes}
 use Rattle.hg_shelf.specs.Memory as shelves
 use Rattle.hg_tree.specs.History as tree
 use Rattle.hg_words.specs.declared.flags.StatusFlags.{StatusFlags}
-use Rattle.hg_words.specs.declared.given.Command.{Command}
 use Rattle.hg_words.specs.declared.given.Command.TheVariants as a_command
 
 -- the flags of a status that asks for all letters
@@ -38,11 +37,6 @@ all_letters =
       print0 = false;
       copies = false;
     }
-
--- a command is none that loads, or its number is from 1 to 2,000
-abbrev pub IsLoadable : Command → Type 0
-IsLoadable (a_command.DebugLoad n) = (1 ≤ n) × (n ≤ 2000)
-IsLoadable command = Unit {0}
 
 -- it is the working copy of so many directories, as it was made: nothing of it was changed since, no call is to fail, and no lock was refused
 pub record IsMade (dirs : ℕ) (made : Alone) : Type 0 where

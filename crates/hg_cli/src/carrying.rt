@@ -1,8 +1,8 @@
 //! One command, or a load, which runs two of its own.
 
-ghost use Rattle.hg_cli.specs.Load.{IsLoadable};
+ghost use Rattle.hg_cli.specs.Carrying.{IsLoadable};
 ghost use Rattle.hg_cli.specs.Run.{Carries};
-ghost use Rattle.hg_session.specs.Call.{counted, saved_by, watched};
+ghost use Rattle.hg_cli.specs.Seen.{seen};
 
 use crate::load::load;
 use hg_ignore::Regexps;
@@ -14,7 +14,7 @@ use hg_words::Command;
 use std::alloc::Global;
 
 /// Carries out a command that was read.
-pub(crate) fn carry<T: Tree, S: Shelf, G: Regexps, O: Sink, E: Sink>(
+pub(crate) fn carry_out<T: Tree, S: Shelf, G: Regexps, O: Sink, E: Sink>(
     alloc: Global,
     given: &Command,
     tree: &mut T,
@@ -26,15 +26,22 @@ pub(crate) fn carry<T: Tree, S: Shelf, G: Regexps, O: Sink, E: Sink>(
     requires { IsLoadable given.now }
     ensures { Carries
         given.now
+        (seen
         (record {
-          tree = watched T.history T.faults tree.old tree.new;
-          shelf = watched S.history S.faults shelf.old shelf.new;
-          oversize = counted G.oversize regexps.old regexps.new;
+          tree = T.history;
+          tree_faults = T.faults;
+          shelf = S.history;
+          images = S.images;
+          shelf_faults = S.faults;
+          held = S.held;
+          oversize = G.oversize;
+          out = O.bytes;
+          out_faults = O.faults;
+          err = E.bytes;
+          err_faults = E.faults;
         })
-        (saved_by S.history S.images shelf.old shelf.new)
-        (counted S.held shelf.old shelf.new)
-        (watched O.bytes O.faults out.old out.new)
-        (watched E.bytes E.faults err.old err.new)
+        (tree.old, shelf.old, regexps.old, out.old, err.old)
+        (tree.new, shelf.new, regexps.new, out.new, err.new))
         result.status
         result.fault }
 {

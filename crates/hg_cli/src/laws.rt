@@ -1,8 +1,8 @@
-//! What holds of every list of runs, and of every list of calls, scripts included.
+//! What holds of every list of calls, scripts included.
 
-ghost use Rattle.hg_cli.specs.Calls.{EachCallIsSafe};
+ghost use Rattle.hg_cli.specs.Calls.{EachCallIsSafe, Leads, StaySafe};
 ghost use Rattle.hg_cli.specs.Good.{EachCallIsGood};
-ghost use Rattle.hg_cli.specs.Run.{EachIsSafe};
+ghost use Rattle.hg_cli.specs.Said.{plainly, safely};
 ghost use Rattle.hg_shelf.specs.Images.{course};
 
 use hg_ignore::Regexps;
@@ -10,15 +10,10 @@ use hg_shelf::Shelf;
 use hg_stream::Sink;
 use hg_tree::Tree;
 
-/// At each moment of each run of a list a crash leaves a record of what it might have left at the run's start, of what the run published, or of
-/// what others published since, also where others publish between the runs and beside them; and each of the runs' steps keeps the bytes that
-/// dockets use, so that where others' do too, what a load asks of them holds (`KeepData`).
-pub fn each_run_is_safe<S: Shelf>()
-    ensures { EachIsSafe (λ shelf. course (S.history shelf) (S.images shelf)) }
-{}
-
-/// The same of every list of calls of `run`, of which each may be a script: there it holds of each turn that was made, so at each moment of a
-/// line a crash leaves a record of what it might have left behind the line before, of what this line published, or of what others published since.
+/// At each moment of each call of a list of calls of `run`, and in a script of each turn that was made, a crash leaves a record of what it might have
+/// left at its start, of the one table that it published of what its command made, or of what others published since, also where others publish
+/// between the calls and beside them; and each of the calls' steps keeps the bytes that dockets use, so that where others' do too, what a load asks of
+/// them holds (`KeepData`).
 pub fn each_call_is_safe<T: Tree, S: Shelf, G: Regexps, O: Sink, E: Sink>()
     ensures { EachCallIsSafe (record {
       tree = T.history;
@@ -33,6 +28,14 @@ pub fn each_call_is_safe<T: Tree, S: Shelf, G: Regexps, O: Sink, E: Sink>()
       err = E.bytes;
       err_faults = E.faults;
     }) }
+{}
+
+/// So it is of every list of calls that run one command each, whatever the other devices of each call are.
+pub fn each_run_is_safe<S: Shelf>()
+    ensures { StaySafe
+        (λ shelf. course (S.history shelf) (S.images shelf))
+        (Leads plainly (λ shelf. course (S.history shelf) (S.images shelf)))
+        (Leads safely (λ shelf. course (S.history shelf) (S.images shelf))) }
 {}
 
 /// From a shelf of which whatever a crash leaves is good, each call of a list of calls of `run`, each of which may be a script, leads to such a one, at each

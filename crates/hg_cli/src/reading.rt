@@ -1,7 +1,8 @@
 //! The paths of which a working copy was asked the bytes.
 
 ghost use Rattle.std.specs.Prelude.{◌≡◌, List, ◌∷◌, IfOk, OnOk};
-ghost use Rattle.hg_cli.specs.Reading.{AreRead, count_read};
+ghost use Rattle.hg_cli.specs.Reading.{count_read};
+ghost use Rattle.hg_cli.specs.Reads.{AreRead};
 ghost use Rattle.hg_tree.specs.declared.asked.Asked.{Asked};
 ghost use Rattle.hg_tree.specs.declared.asked.Asked.TheVariants as an_ask;
 

@@ -3,14 +3,15 @@
 ghost use Rattle.std.specs.Prelude.{◌≡◌, ◌⊎◌, Some, None};
 ghost use Rattle.hg_base.specs.Fault.{Rose};
 ghost use Rattle.hg_cli.specs.Run.{IsRun};
-ghost use Rattle.hg_cli.specs.Script.{Does, DoesWords, of_line, seen};
+ghost use Rattle.hg_cli.specs.Said.{plainly};
+ghost use Rattle.hg_cli.specs.Script.{ServesLine, ServesTurn, of_line};
+ghost use Rattle.hg_cli.specs.Seen.{seen};
 ghost use Rattle.hg_lines.specs.Script as lines_are;
 ghost use Rattle.hg_lines.specs.Turns.{RunsScript};
 ghost use Rattle.hg_report.specs.declared.fault.Fault.TheVariants as a_fault;
-ghost use Rattle.hg_session.specs.Call.{counted, saved_by, watched};
 ghost use Rattle.hg_session.specs.Put.{IsFaultOrMemory};
 
-use crate::carrying::carry;
+use crate::carrying::carry_out;
 use hg_base::Words;
 use hg_ignore::Regexps;
 use hg_lines::{LineFault, Lines, words_of};
@@ -50,20 +51,27 @@ fn run_words<T: Tree, S: Shelf, G: Regexps, O: Sink, E: Sink>(
 ) -> Outcome
     ensures answered { IsRun
         words.now
+        (seen
         (record {
-          tree = watched T.history T.faults tree.old tree.new;
-          shelf = watched S.history S.faults shelf.old shelf.new;
-          oversize = counted G.oversize regexps.old regexps.new;
+          tree = T.history;
+          tree_faults = T.faults;
+          shelf = S.history;
+          images = S.images;
+          shelf_faults = S.faults;
+          held = S.held;
+          oversize = G.oversize;
+          out = O.bytes;
+          out_faults = O.faults;
+          err = E.bytes;
+          err_faults = E.faults;
         })
-        (saved_by S.history S.images shelf.old shelf.new)
-        (counted S.held shelf.old shelf.new)
-        (watched O.bytes O.faults out.old out.new)
-        (watched E.bytes E.faults err.old err.new)
+        (tree.old, shelf.old, regexps.old, out.old, err.old)
+        (tree.new, shelf.new, regexps.new, out.new, err.new))
         result.status
         result.fault }
 {
     match read(alloc, words) {
-        Ok(given) => carry(alloc, &given, tree, shelf, regexps, out, err),
+        Ok(given) => carry_out(alloc, &given, tree, shelf, regexps, out, err),
         Err(fault) => failed(alloc, Fault::from(fault), err),
     }
 }
@@ -79,8 +87,8 @@ fn run_line<T: Tree, S: Shelf, G: Regexps, O: Sink, E: Sink>(
     out: &mut O,
     err: &mut E,
 ) -> Outcome
-    ensures { DoesWords
-        (seen (record {
+    ensures { ServesLine
+        (plainly (seen (record {
           tree = T.history;
           tree_faults = T.faults;
           shelf = S.history;
@@ -92,7 +100,7 @@ fn run_line<T: Tree, S: Shelf, G: Regexps, O: Sink, E: Sink>(
           out_faults = O.faults;
           err = E.bytes;
           err_faults = E.faults;
-        }))
+        })))
         n
         words.now
         (tree.old, shelf.old, regexps.old, out.old, err.old)
@@ -123,8 +131,8 @@ fn turn<T: Tree, S: Shelf, G: Regexps, O: Sink, E: Sink>(
     out: &mut O,
     err: &mut E,
 ) -> Outcome
-    ensures { DoesWords
-        (seen (record {
+    ensures { ServesLine
+        (plainly (seen (record {
           tree = T.history;
           tree_faults = T.faults;
           shelf = S.history;
@@ -136,7 +144,7 @@ fn turn<T: Tree, S: Shelf, G: Regexps, O: Sink, E: Sink>(
           out_faults = O.faults;
           err = E.bytes;
           err_faults = E.faults;
-        }))
+        })))
         n
         (lines_are.words_of line.now)
         (tree.old, shelf.old, regexps.old, out.old, err.old)
@@ -168,7 +176,7 @@ pub(crate) fn script<T: Tree, S: Shelf, G: Regexps, I: Source, O: Sink, E: Sink>
     err: &mut E,
 ) -> Outcome
     ensures ran { RunsScript
-        (Does (seen (record {
+        (ServesTurn (plainly (seen (record {
           tree = T.history;
           tree_faults = T.faults;
           shelf = S.history;
@@ -180,7 +188,7 @@ pub(crate) fn script<T: Tree, S: Shelf, G: Regexps, I: Source, O: Sink, E: Sink>
           out_faults = O.faults;
           err = E.bytes;
           err_faults = E.faults;
-        })))
+        }))))
         (I.left input.old)
         (I.left input.new)
         (tree.old, shelf.old, regexps.old, out.old, err.old)

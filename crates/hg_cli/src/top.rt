@@ -1,12 +1,14 @@
 //! The top call: one command over a working copy, the files below `.hg`, and the standard streams.
 
-ghost use Rattle.std.specs.Prelude.{◌≡◌, ◌⊎◌, false, Some, None};
+ghost use Rattle.std.specs.Prelude.{◌≡◌, ◌⊎◌, Some, None};
 ghost use Rattle.hg_base.specs.Fault.{Rose};
-ghost use Rattle.hg_cli.specs.Script.{RunsWords, is_script};
+ghost use Rattle.hg_cli.specs.Kinds.{ServesWords, kind_of, one_command};
+ghost use Rattle.hg_cli.specs.Said.{plainly};
+ghost use Rattle.hg_cli.specs.Seen.{seen};
 ghost use Rattle.hg_report.specs.declared.fault.Fault.TheVariants as a_fault;
 ghost use Rattle.hg_session.specs.Put.{IsFaultOrMemory};
 
-use crate::carrying::carry;
+use crate::carrying::carry_out;
 use crate::script::script;
 use hg_base::Words;
 use hg_ignore::Regexps;
@@ -33,10 +35,10 @@ pub fn run<T: Tree, S: Shelf, G: Regexps, I: Source, O: Sink, E: Sink>(
     out: &mut O,
     err: &mut E,
 ) -> Outcome
-    // What the call did and answers: `RunsWords` in specs/Script.antt. Where the words ask for a script, each of its lines ran as a call of its
-    // own; else it is `IsRun` in specs/Run.antt, and where they are a command `IsAnswered` of `hg_session`, a sentence a field.
-    ensures answered { RunsWords
-        (record {
+    // What the call did and answers, by the kind of call that the words are. Of one command it is `IsRun`, and where the words are a command that is
+    // `IsAnswered` of `hg_session`, a sentence a field; of a script it is the same of each line, one after another.
+    ensures answered { ServesWords
+        (plainly (seen (record {
           tree = T.history;
           tree_faults = T.faults;
           shelf = S.history;
@@ -48,7 +50,7 @@ pub fn run<T: Tree, S: Shelf, G: Regexps, I: Source, O: Sink, E: Sink>(
           out_faults = O.faults;
           err = E.bytes;
           err_faults = E.faults;
-        })
+        })))
         words.now
         (I.left input.old)
         (I.left input.new)
@@ -62,12 +64,12 @@ pub fn run<T: Tree, S: Shelf, G: Regexps, I: Source, O: Sink, E: Sink>(
     ensures quiet { result.fault ≡ None → I.faults input.new ≡ I.faults input.old }
     // Where it doesn't, the fault is that the input failed, or want of memory in its place.
     ensures stayed { (I.faults input.new ≡ I.faults input.old) ⊎ IsFaultOrMemory result.fault a_fault.InFailed }
-    // Nobody looks at the input but a script.
-    ensures unread { is_script words.now ≡ false → input.new ≡ input.old }
+    // Nobody looks at the input for one command.
+    ensures unread { kind_of words.now ≡ one_command → input.new ≡ input.old }
 {
     match read(alloc, words) {
         Ok(Command::DebugScript) => script(alloc, tree, shelf, regexps, input, out, err),
-        Ok(given) => carry(alloc, &given, tree, shelf, regexps, out, err),
+        Ok(given) => carry_out(alloc, &given, tree, shelf, regexps, out, err),
         Err(fault) => failed(alloc, Fault::from(fault), err),
     }
 }

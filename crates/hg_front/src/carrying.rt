@@ -1,9 +1,11 @@
 //! A command from its words to what it ends with.
 
-ghost use Rattle.std.specs.Prelude.{◌≡◌, ◌⊎◌, false, IfErr, IfOk, Some, None};
+ghost use Rattle.std.specs.Prelude.{◌≡◌, ◌⊎◌, IfErr, IfOk, Some, None};
 ghost use Rattle.std.specs.Option.{option_map};
 ghost use Rattle.hg_base.specs.Fault.{Rose};
-ghost use Rattle.hg_cli.specs.Script.{RunsWords, is_script};
+ghost use Rattle.hg_cli.specs.Kinds.{ServesWords, kind_of, one_command};
+ghost use Rattle.hg_cli.specs.Said.{plainly};
+ghost use Rattle.hg_cli.specs.Seen.{seen};
 ghost use Rattle.hg_front.specs.Advice.{behind_carried};
 ghost use Rattle.hg_front.specs.Carried.{IsCarried, IsNotBegun, status_of};
 ghost use Rattle.hg_front.specs.Further.{SaysEach};
@@ -53,8 +55,8 @@ pub fn carry<T: Tree, S: Shelf, G: Regexps, I: Source, O: Sink, E: Sink>(
         here.now
         words
         err.old
-        (λ given begun code fault. RunsWords
-        (record {
+        (λ given begun code fault. ServesWords
+        (plainly (seen (record {
           tree = T.history;
           tree_faults = T.faults;
           shelf = S.history;
@@ -66,7 +68,7 @@ pub fn carry<T: Tree, S: Shelf, G: Regexps, I: Source, O: Sink, E: Sink>(
           out_faults = O.faults;
           err = E.bytes;
           err_faults = E.faults;
-        })
+        })))
         given
         (I.left input.old)
         (I.left input.new)
@@ -84,8 +86,8 @@ pub fn carry<T: Tree, S: Shelf, G: Regexps, I: Source, O: Sink, E: Sink>(
     ensures quiet { IfOk result (λ ran. ran.outcome.fault ≡ None → I.faults input.new ≡ I.faults input.old) }
     // Where it doesn't, the fault is that the input failed, or want of memory in its place.
     ensures stayed { IfOk result (λ ran. (I.faults input.new ≡ I.faults input.old) ⊎ IsFaultOrMemory ran.outcome.fault a_fault.InFailed) }
-    // Nobody looks at the input but a script.
-    ensures unread { IfOk result (λ ran. is_script ran.placed.words ≡ false → input.new ≡ input.old) }
+    // Nobody looks at the input for one command.
+    ensures unread { IfOk result (λ ran. kind_of ran.placed.words ≡ one_command → input.new ≡ input.old) }
 {
     let placed = match place(alloc, folder, words) {
         Ok(placed) => placed,

@@ -63,14 +63,14 @@ fn main(rt: HostRuntime) -> ExitCode {
 fn started<O: Sink, E: Sink>(rt: &HostRuntime, words: Words, out: &mut O, err: &mut E) -> u8 {
     let alloc = rt.alloc();
     match enter_root(rt) {
-        Ok(Start::Inside(folder)) => command(rt, folder.as_deref(), true, words, out, err),
-        Ok(Start::Outside) => command(rt, Some(""), false, words, out, err),
+        Ok(Start::Inside(folder)) => from_root(rt, folder.as_deref(), true, words, out, err),
+        Ok(Start::Outside) => from_root(rt, Some(""), false, words, out, err),
         Err(_) => unreached(alloc, err, ".: no way to the root or back"),
     }
 }
 
 // Carries a command to the devices of the working copy whose root is the current folder, and answers what that ends with.
-fn command<O: Sink, E: Sink>(
+fn from_root<O: Sink, E: Sink>(
     rt: &HostRuntime,
     folder: Option<&str>,
     inside: bool,

@@ -1,5 +1,5 @@
-use Rattle.hg_cli.proofs.Lists.{each_is_safe}
+use Rattle.hg_cli.proofs.Calling.{each_run_is_safe}
 use Rattle.hg_cli.proofs.laws.each_run_is_safe.Goals as goal
 
 pub returns : goal.returns
-returns g c = each_is_safe _
+returns g c = each_run_is_safe _

@@ -1,5 +1,5 @@
 use Rattle.std.proofs.Common.{◌≤◌, length, drop}
-use Rattle.hg_cli.specs.Reading.{AreRead}
+use Rattle.hg_cli.specs.Reads.{AreRead}
 use Rattle.hg_cli.proofs.reading.reads.Given as goal
 
 -- the paths of the asks behind this place

@@ -1,6 +1,6 @@
 use Rattle.std.proofs.Common.{◌∙◌, Some, ap, sym}
 use Rattle.hg_cli.proofs.Scripting.{run_so}
-use Rattle.hg_cli.specs.Script.{seen}
+use Rattle.hg_cli.specs.Seen.{seen}
 use Rattle.hg_cli.proofs.script.run_line.Goals as goal
 
 pub returns : goal.returns

@@ -1,7 +1,7 @@
 use Rattle.std.proofs.Common.{◌≡◌, ◌∙◌, ℕ, true, false, refl, rules, arith, ap, subst, inl}
 use Rattle.std.specs.Prelude.{is_some, max}
 use Rattle.hg_cli.proofs.Scripting.{does_line, input_failed, input_quiet, input_stayed, line_own, not_input, some_fault}
-use Rattle.hg_cli.specs.Script.{seen}
+use Rattle.hg_cli.specs.Seen.{seen}
 use Rattle.hg_lines.proofs.Turning.{begins, ends, fails_with, goes_with, refuses_with, stops_with}
 use Rattle.hg_base.specs.Fault.{Rose}
 use Rattle.hg_lines.specs.Script.{Reading, words_of}

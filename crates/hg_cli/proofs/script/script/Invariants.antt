@@ -1,5 +1,7 @@
 use Rattle.std.proofs.Common.{◌≡◌, ◌≤◌, ◌-◌}
-use Rattle.hg_cli.specs.Script.{Does, seen}
+use Rattle.hg_cli.specs.Said.{plainly}
+use Rattle.hg_cli.specs.Script.{ServesTurn}
+use Rattle.hg_cli.specs.Seen.{seen}
 use Rattle.hg_lines.proofs.Turning.{Going}
 use Rattle.hg_cli.proofs.script.script.Given as goal
 
@@ -7,7 +9,8 @@ use Rattle.hg_cli.proofs.script.script.Given as goal
 abbrev pub invariant-loop-lines : goal.invariant-loop-lines
 invariant-loop-lines g l = record {
   going : Going
-      (Does
+      (ServesTurn
+      (plainly
       (seen
       (record {
         tree = g.T.Tree.history;
@@ -21,7 +24,7 @@ invariant-loop-lines g l = record {
         out_faults = g.O.Sink.faults;
         err = g.E.Sink.bytes;
         err_faults = g.E.Sink.faults;
-      })))
+      }))))
       (g.I.Source.left l.initial.input)
       (l.initial.tree, l.initial.shelf, l.initial.regexps, l.initial.out, l.initial.err)
       (l.tree, l.shelf, l.regexps, l.out, l.err)

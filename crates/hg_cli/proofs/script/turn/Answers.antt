@@ -1,7 +1,7 @@
 use Rattle.std.proofs.Common.{◌≡◌, ◌∙◌, true, false, length, rules, eqb, sym}
 use Rattle.std.proofs.lemmas.Bool.{eq-eqb}
 use Rattle.hg_cli.proofs.Scripting.{no_memory}
-use Rattle.hg_cli.specs.Script.{seen}
+use Rattle.hg_cli.specs.Seen.{seen}
 use Rattle.hg_cli.proofs.script.turn.Goals as goal
 
 pub returns-in-Err : goal.returns-in-Err
