@@ -3,9 +3,10 @@ use Rattle.std.proofs.Common.{ℕ, ◌≡◌, ◌≤◌, Option, Some, None, sym
 use Rattle.hg_entry.specs.Table.{Table}
 use Rattle.hg_report.specs.declared.fault.Fault.{Fault}
 use Rattle.hg_save.specs.Loads.{files_at}
-use Rattle.hg_save.specs.Others.{HasData, KeepData}
+use Rattle.hg_save.specs.Others.{HasData, KeepData, KeepsRecords}
 use Rattle.hg_save.proofs.Spans.{keep_used}
 use Rattle.hg_save.specs.Behind.{IsKeepingUsed, KeepsUsed}
+use Rattle.hg_save.specs.Saved.{IsLatest}
 use Rattle.hg_session.proofs.Crashes.{crash_safe}
 use Rattle.hg_session.proofs.GoodParts.{from_moment}
 use Rattle.hg_session.proofs.Makers.{none_since}
@@ -14,7 +15,7 @@ use Rattle.hg_session.proofs.UsedSteps.{used_shorter, using_itself}
 use Rattle.hg_session.specs.Acts.{Makes}
 use Rattle.hg_session.specs.Call.{Saved, Watched}
 use Rattle.hg_session.specs.Change.{IsSafe, NoneOurs, up_to}
-use Rattle.hg_session.specs.Crash.{Appends, IsFirmGround, IsSafeFromCrashes}
+use Rattle.hg_session.specs.Crash.{Appends, IsFirmGround, IsSafeBy, IsSafeFromCrashes}
 use Rattle.hg_session.specs.Status.{noted_in}
 use Rattle.hg_shelf.specs.History.{History, Who, others, readers, us}
 use Rattle.hg_shelf.specs.Images.{Course, Goes, Scene, last_scene}
@@ -59,3 +60,8 @@ safe_from saved goes Does nothing fair fault safe calm keep first ground = (
   own_of Does saved fault (safe calm),
   crash_safe saved.old saved.new goes calm keep Does nothing first fault (safe calm) (firm_for saved Does nothing fair fault (safe calm) ground),
 )
+
+-- and so it is upon such ground, whatever it wrote
+pub safe_upon : (Does : Makes) (saved : Saved) → IsSafeFromCrashes Does saved → Undisturbed saved.old saved.new → KeepsRecords others saved.new saved.old.history.last → IsLatest (last_scene saved.old) → IsFirmGround saved
+    → IsSafeBy Does saved
+safe_upon Does saved crash calm keep latest ground = crash calm keep latest (λ appends. ground)

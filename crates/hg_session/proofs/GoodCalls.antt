@@ -21,6 +21,7 @@ use Rattle.hg_session.specs.Status.{AreEarnedFor, noted_in}
 use Rattle.hg_session.specs.Told.{Told}
 use Rattle.hg_session.specs.declared.acting.Changing.TheVariants as a_change
 use Rattle.hg_session.proofs.Crashes.{crash_unwritten}
+use Rattle.hg_session.proofs.Firm.{safe_upon}
 use Rattle.hg_session.proofs.GoodParents.{reparented_good}
 use Rattle.hg_session.proofs.GoodStays.{before, good_by, good_stays, one_table}
 use Rattle.hg_session.proofs.GoodParts.{stood_upto}
@@ -119,6 +120,13 @@ pub kept_fair : (saved : Saved) → Goes saved.old saved.new → Undisturbed sav
 kept_fair saved goes calm keep there =
     stood_upto saved.new saved.old.history.last (goes.past.told ∙ calm.told) calm.others keep (subst HasData (sym (goes.kept saved.old.history.last (omega arith)).shown) there)
 
+-- what is good is firm ground, where others keep the data that dockets name
+pub firm_by : (looked : Looked) (saved : Saved) (by : tree.History) → Goes saved.old saved.new → IsFair by looked saved → IsGoodGround by (last_scene saved.old) → IsFirmGround saved
+firm_by looked saved by goes fair ground = record {
+  sound = λ f left. let there = ground.good f left in (there.0, there.1);
+  kept = kept_fair saved goes fair.calm fair.kept ground.there;
+}
+
 -- a call that writes nothing
 pub unwritten_good : (looked : Looked) (saved : Saved) → Goes saved.old saved.new → IsUnwritten saved.old.history saved.new.history → StaysGood looked saved
 unwritten_good looked saved goes none by past fair ground =
@@ -137,32 +145,25 @@ module _ (copy : Watched tree.History) (files : Watched shelf.History) (oversize
   abbrev call : Command → Call
   call command = record { command = command; looked = looked; saved = saved; locks = locks; out = out; err = err }
 
-  -- the ground of a call that begins upon a good shelf is firm
-  good_firm : (by : tree.History) → Goes saved.old saved.new → IsFair by looked saved → IsGoodGround by (last_scene saved.old) → IsFirmGround saved
-  good_firm by goes fair ground = record {
-    sound = λ f left. let there = ground.good f left in (there.0, there.1);
-    kept = kept_fair saved goes fair.calm fair.kept ground.there;
-  }
-
   change_stays : (command : Command) → Goes saved.old saved.new → IsSafeFromCrashes (makes_of command copy files) saved → StaysGood looked saved
   change_stays command goes crash by past fair ground =
       good_stays saved.old saved.new goes fair.calm fair.keep fair.plain fair.parent by fair.published ground.good (shown (goes.past.told ∙ fair.calm.told)) (makes_of command copy files) (may_nothing command copy files)
       (λ from after within none. asks_none command copy files files.new from)
       (λ loaded made said changed does there. made_good copy files (shelf.now files.new).files goes.past fair.calm.told (there_stays files.new files.old.last fair.plain) command by loaded made said changed does there)
-      (crash fair.calm fair.keep ground.latest (λ appends. good_firm by goes fair ground))
+      (safe_upon (makes_of command copy files) saved crash fair.calm fair.keep ground.latest (firm_by looked saved by goes fair ground))
 
   status_stays : (table : Option Table) (notes : NotesData) → IfSome table (λ t. AreEarnedFor looked t notes) → Goes saved.old saved.new → IsSafeFromCrashes (noted_in files table notes) saved → StaysGood looked saved
   status_stays table notes earned goes crash by past fair ground =
       good_stays saved.old saved.new goes fair.calm fair.keep fair.plain fair.parent by fair.published ground.good (shown (goes.past.told ∙ fair.calm.told)) (noted_in files table notes) (may_note_nothing files table notes)
       (λ from after within none. noted_fair files table notes files.new from (kept_fair saved goes fair.calm fair.kept ground.there from after within none))
       (noted_does looked table notes by past earned fair.honest fair.told fair.plain)
-      (crash fair.calm fair.keep ground.latest (λ appends. good_firm by goes fair ground))
+      (safe_upon (noted_in files table notes) saved crash fair.calm fair.keep ground.latest (firm_by looked saved by goes fair ground))
 
   -- nothing is made of the record
   look_stays : Goes saved.old saved.new → IsSafeFromCrashes makes_nothing saved → StaysGood looked saved
   look_stays goes crash by past fair ground =
       good_stays saved.old saved.new goes fair.calm fair.keep fair.plain fair.parent by fair.published ground.good (shown (goes.past.told ∙ fair.calm.told)) makes_nothing (λ from to may. may)
-      (λ from after within none. tt) (λ loaded made said changed does there. absurd does) (crash fair.calm fair.keep ground.latest (λ appends. good_firm by goes fair ground))
+      (λ from after within none. tt) (λ loaded made said changed does there. absurd does) (safe_upon makes_nothing saved crash fair.calm fair.keep ground.latest (firm_by looked saved by goes fair ground))
 
   reads_right : tree.Extends copy.old copy.new → Goes saved.old saved.new → ReadsRight looked saved
   reads_right past goes fair apart ground t read =
