@@ -104,17 +104,16 @@ module _ (flags : StatusFlags) (looked : Looked) (behind : shelf.History) (n m :
     pub left_by : OnlyReads saved locks → (Fails part.shelf → Fails looked.shelf) → (fault : Fault) → (stage : Stage) × LeavesAt (show_look flags part table notes) out err IsUntold stage fault
         → (stage : Stage) × LeavesAt (status_look flags looked saved locks (Some table) notes) out err IsUntold stage fault
     left_by only failed fault (at_first, ((f, is, cause), silent, line)) = (at_first, ((only, inr (f, is, cause_by failed f cause)), silent, line))
-    left_by only failed fault (at_printing, (printing, ready, front, kind, line)) =
-        (
-          at_printing,
-          (
-            only,
-            worked_by notes ready,
-            record { text = front.text; is = record { said = front.is.said; says = says_by front.is.said front.is.says; is = front.is.is }; put = front.put; failed = front.failed },
-            kind,
-            line,
-          ),
-        )
+    left_by only failed fault (at_printing, (printing, ready, front, kind, line)) = (
+      at_printing,
+      (
+        only,
+        worked_by notes ready,
+        record { text = front.text; is = record { said = front.is.said; says = says_by front.is.said front.is.says; is = front.is.is }; put = front.put; failed = front.failed },
+        kind,
+        line,
+      ),
+    )
     left_by only failed fault (at_telling, (telling, ready, all, is)) =
         (at_telling, (only, worked_by notes ready, record { said = all.said; says = says_by all.said all.says; printed = all.printed; behind = all.behind }, is))
     left_by only failed fault (at_saving, (never, left)) = absurd never

@@ -314,17 +314,16 @@ module _ (flags : StatusFlags) (looked : Looked) (saved : Saved) (locks : Count)
     left_whole : (fault : Fault) → (stage : Stage) × LeavesAt (status_look flags (listed_to end looked) saved locks table notes) out err Tells stage fault
         → (stage : Stage) × LeavesAt (status_look flags looked saved locks table notes) out err Tells stage fault
     left_whole fault (at_first, ((only, why), silent, line)) = (at_first, ((only, why_whole fault why), silent, line))
-    left_whole fault (at_printing, (only, ready, front, kind, line)) =
-        (
-          at_printing,
-          (
-            only,
-            ready_whole ready,
-            record { text = front.text; is = record { said = front.is.said; says = says_whole front.is.said front.is.says; is = front.is.is }; put = front.put; failed = front.failed },
-            kind,
-            line,
-          ),
-        )
+    left_whole fault (at_printing, (only, ready, front, kind, line)) = (
+      at_printing,
+      (
+        only,
+        ready_whole ready,
+        record { text = front.text; is = record { said = front.is.said; says = says_whole front.is.said front.is.says; is = front.is.is }; put = front.put; failed = front.failed },
+        kind,
+        line,
+      ),
+    )
     left_whole fault (at_telling, (only, ready, all, is)) = (at_telling, (only, ready_whole ready, record { said = all.said; says = says_whole all.said all.says; printed = all.printed; behind = all.behind }, is))
     left_whole fault (at_saving, (saving, (ready, all))) = (at_saving, (saving, (ready_whole ready, record { said = all.said; says = says_whole all.said all.says; printed = all.printed; behind = all.behind })))
 

@@ -317,14 +317,17 @@ module _ (a b c d : Course) (lock : Waits a.history b.history) (unlock : Waits c
 
     pub safe_wide : (fault : Option Fault) → IsSafeHeld Part (record { old = b; new = c }) fault → IsSafe Whole (record { old = a; new = d }) fault
     safe_wide fault (inl none) = inl (inl (unwritten_wide none))
-    safe_wide fault (inr (may, is)) = inr (may, record {
-      stretch = held_stretch;
-      since = b.history.last;
-      from = omega arith;
-      upto = q.past.later;
-      may = λ k after below. absurd (omega (arith, after, below));
-      is = published_wide is;
-    })
+    safe_wide fault (inr (may, is)) = inr (
+      may,
+      record {
+        stretch = held_stretch;
+        since = b.history.last;
+        from = omega arith;
+        upto = q.past.later;
+        may = λ k after below. absurd (omega (arith, after, below));
+        is = published_wide is;
+      },
+    )
 
     refuses_wide : (fault : ReadFault) → LoadMet fault part → LoadMet fault whole
     refuses_wide fault met told =

@@ -5,7 +5,6 @@ ghost use Rattle.hg_session.specs.Acts.{makes_of};
 ghost use Rattle.hg_session.specs.Call.{Count, Sink, counted, saved_by, watched};
 ghost use Rattle.hg_session.specs.Change.{AsksChange, ChangesBehind, IsDone, IsLocked, IsSafe, MetLocking, Stretch, of_change};
 ghost use Rattle.hg_session.specs.Changing.{FailsOrUnwritten, fault_of, once_freed, EndsChange};
-
 ghost use Rattle.hg_session.specs.Loaded.{AsksRecord};
 ghost use Rattle.hg_session.specs.Put.{IsSilent};
 ghost use Rattle.hg_ops.specs.declared.refusal.OpFault.TheVariants as an_op_fault;
