@@ -3,6 +3,7 @@ use Rattle.std.proofs.Common.{ℕ, ◌≡◌, true, false, Option, Some, None, R
 use Rattle.std.specs.Option.{MatchOption}
 use Rattle.std.specs.Prelude.{IsSomeAnd, ◌⊎◌}
 use Rattle.hg_session.specs.Changing.{EndsChange}
+use Rattle.hg_append.specs.declared.fault.EncodeFault.{EncodeFault}
 use Rattle.hg_append.specs.declared.fault.EncodeFault.TheVariants as an_encode_fault
 use Rattle.hg_base.specs.Fault.{Rose}
 use Rattle.hg_entry.specs.Table.{Table}
@@ -19,7 +20,7 @@ use Rattle.hg_session.specs.Acts.{Makes}
 use Rattle.hg_session.specs.Answered.{IsAnswered, IsIdle, IsUnbuilt, Ran, made_by}
 use Rattle.hg_session.specs.Call.{Call, Count, Fails, IsLeftAlone, Looked, Saved, Sink, Watched}
 use Rattle.hg_session.specs.Cause.{CommandCause}
-use Rattle.hg_session.specs.Change.{IsUnwritten, WroteOnly, MetChanging, MetDoing, MetLocking, makes_in, of_change}
+use Rattle.hg_session.specs.Change.{IsUnwritten, WroteOnly, MetChanging, MetDoing, MetLocking, makes_in, of_change, Made, MetStop, MetUnfit, come_so, only_so, IsLoadedFirst}
 use Rattle.hg_session.specs.Changed.{RanChange, change_look}
 use Rattle.hg_session.specs.Commands.{is_change, is_done}
 use Rattle.hg_session.specs.Crash.{IsSafeFromCrashes}
@@ -31,7 +32,7 @@ use Rattle.hg_session.specs.Loaded.{AsksRecord, IsLoaded, MetReading}
 use Rattle.hg_session.specs.Look.{IsCalm, IsOutFault, LeavesAt, Concludes, OnlyReads, Stage, at_first, at_printing, at_saving, at_telling}
 use Rattle.hg_session.specs.Looking.{EndsAs, DoesStatus}
 use Rattle.hg_session.specs.Put.{IsFaultOrMemory, OnStream, Tells}
-use Rattle.hg_session.specs.Status.{IsLoadedFirst, ListingCause, RanStatus, noted_in, status_look}
+use Rattle.hg_session.specs.Status.{ListingCause, RanStatus, noted_in, status_look}
 use Rattle.hg_session.specs.declared.change_fault.ChangeFault.{ChangeFault}
 use Rattle.hg_session.specs.declared.change_fault.ChangeFault.TheVariants as a_change_fault
 use Rattle.hg_session.specs.declared.print_fault.PrintFault.{PrintFault}
@@ -130,27 +131,37 @@ record_cause call fault (Err met) prints (inr memory, told) = subst (λ (f : Opt
 
 -- ---- a command that changes the record
 
-module _ (call : Call) (is : is_change call.command ≡ true) where
-  by_doing : (fault : OpFault) → MetDoing (makes_in call) call.looked.tree call.looked.shelf fault → CommandCause call (of_op fault)
+module _ (call : Call) (is : is_change call.command ≡ true) (read : Option Table) (work : Option Made) where
+  -- what the command makes, so far as it came
+  abbrev So : Makes
+  So = only_so (makes_in call) read work
+
+  stop_plain : (fault : Fault) → MetStop So call.looked.shelf fault → MetStop (makes_in call) call.looked.shelf fault
+  stop_plain fault met = record { loaded = met.loaded; read = met.read; stops = met.stops.1 }
+
+  unfit_plain : (fault : EncodeFault) → MetUnfit So call.looked.shelf fault → MetUnfit (makes_in call) call.looked.shelf fault
+  unfit_plain fault met = record { made = met.made; said = met.said; is = record { loaded = met.is.loaded; read = met.is.read; does = met.is.does.2 }; unfit = met.unfit }
+
+  by_doing : (fault : OpFault) → MetDoing So call.looked.tree call.looked.shelf fault → CommandCause call (of_op fault)
   by_doing an_op_fault.OutOfMemory met = tt
   by_doing an_op_fault.TreeFailed met = (met.1, was_loaded call.looked.shelf (λ told. (met.0.loaded, met.0.read told)))
   by_doing an_op_fault.ShelfFailed met = met.1
-  by_doing (an_op_fault.NoManifest id) met = inr (is, met.0)
-  by_doing (an_op_fault.ManifestTooLarge size) met = inr (is, met.0)
-  by_doing (an_op_fault.ManifestLine line) met = inr (is, met.0)
-  by_doing (an_op_fault.ManifestOrder line) met = inr (is, met.0)
-  by_doing (an_op_fault.NoContents id) met = inr (is, met.0)
+  by_doing (an_op_fault.NoManifest id) met = inr (is, stop_plain (a_fault.NoManifest id) met.0)
+  by_doing (an_op_fault.ManifestTooLarge size) met = inr (is, stop_plain (a_fault.ManifestTooLarge size) met.0)
+  by_doing (an_op_fault.ManifestLine line) met = inr (is, stop_plain (a_fault.ManifestLine line) met.0)
+  by_doing (an_op_fault.ManifestOrder line) met = inr (is, stop_plain (a_fault.ManifestOrder line) met.0)
+  by_doing (an_op_fault.NoContents id) met = inr (is, stop_plain (a_fault.NoContents id) met.0)
 
-  by_changing : (fault : ChangeFault) → MetChanging (makes_in call) call.looked.tree call.looked.shelf fault → CommandCause call (of_change fault)
+  by_changing : (fault : ChangeFault) → MetChanging So call.looked.tree call.looked.shelf fault → CommandCause call (of_change fault)
   by_changing (a_change_fault.Read fault) met = by_reading call fault met.0
   by_changing (a_change_fault.Op fault) met = by_doing fault met
   by_changing (a_change_fault.Encode an_encode_fault.OutOfMemory) met = tt
-  by_changing (a_change_fault.Encode (an_encode_fault.TooLarge size)) met = (is, met)
-  by_changing (a_change_fault.Encode an_encode_fault.IdsSpent) met = (is, met)
+  by_changing (a_change_fault.Encode (an_encode_fault.TooLarge size)) met = (is, unfit_plain (an_encode_fault.TooLarge size) met)
+  by_changing (a_change_fault.Encode an_encode_fault.IdsSpent) met = (is, unfit_plain an_encode_fault.IdsSpent met)
   by_changing a_change_fault.Held met = absurd met
   by_changing a_change_fault.ShelfFailed met = met.0
 
-  by_locking : (fault : ChangeFault) → MetLocking (makes_in call) call.looked.tree call.looked.shelf call.locks fault → CommandCause call (of_change fault)
+  by_locking : (fault : ChangeFault) → MetLocking So call.looked.tree call.looked.shelf call.locks fault → CommandCause call (of_change fault)
   by_locking fault (inl met) = by_changing fault met
   by_locking fault (inr (held, rose, alone)) = subst (λ (f : ChangeFault). CommandCause call (of_change f)) (sym held) (is, rose)
 
@@ -158,7 +169,7 @@ module _ (call : Call) (is : is_change call.command ≡ true) where
   by_saving fault failed (inl same) = subst (CommandCause call) (sym same) failed
   by_saving fault failed (inr same) = subst (CommandCause call) (sym same) tt
 
-  change_left : (fault : Fault) → (stage : Stage) × LeavesAt (change_look (makes_in call) call) call.out call.err Tells stage fault → CommandCause call fault
+  change_left : (fault : Fault) → (stage : Stage) × LeavesAt (change_look So call) call.out call.err Tells stage fault → CommandCause call fault
   change_left fault (at_first, ((none, f, inl same, met), silent, line)) =
       let is : fault ≡ of_change f = cc same in
       subst (CommandCause call) (sym is) (by_locking f met)
@@ -170,17 +181,17 @@ module _ (call : Call) (is : is_change call.command ≡ true) where
   change_left fault (at_saving, ((failed, kind), left)) = by_saving fault failed.0 kind
 
   -- want of memory comes where nothing was written, or where the shelf failed too
-  change_memory_left : (fault : Fault) → (stage : Stage) × LeavesAt (change_look (makes_in call) call) call.out call.err Tells stage fault → fault ≡ a_fault.OutOfMemory → HadNoMemory (makes_in call) call
+  change_memory_left : (fault : Fault) → (stage : Stage) × LeavesAt (change_look So call) call.out call.err Tells stage fault → fault ≡ a_fault.OutOfMemory → HadNoMemory So call
   change_memory_left fault (at_first, ((none, f, why, met), silent, line)) memory = inl none
   change_memory_left fault (at_printing, (never, ready, front, kind, line)) memory = absurd never
   change_memory_left fault (at_telling, (telling, ready, printed, same)) memory = absurd (cc (same, memory))
   change_memory_left fault (at_saving, ((failed, kind), left)) memory = inr failed.0
 
-  changed_memory : (fault : Option Fault) → Concludes (change_look (makes_in call) call) call.out call.err fault → fault ≡ Some a_fault.OutOfMemory → HadNoMemory (makes_in call) call
+  changed_memory : (fault : Option Fault) → Concludes (change_look So call) call.out call.err fault → fault ≡ Some a_fault.OutOfMemory → HadNoMemory So call
   changed_memory None looks memory = absurd (cc memory)
   changed_memory (Some fault) looks memory = change_memory_left fault looks.left (cc memory)
 
-  changed_cause : (fault : Option Fault) → Concludes (change_look (makes_in call) call) call.out call.err fault → IfSome fault (CommandCause call)
+  changed_cause : (fault : Option Fault) → Concludes (change_look So call) call.out call.err fault → IfSome fault (CommandCause call)
   changed_cause None looks = tt
   changed_cause (Some fault) looks = change_left fault looks.left
 
@@ -212,7 +223,7 @@ on_stream None is = tt
 on_stream (Some fault) is = λ stream. is
 
 -- a command that changes the record
-ran_changed : (call : Call) (code : ℕ) (fault : Option Fault) → RanChange call code fault → (command : Command) → is_change command ≡ true → Ran command call code fault
+abbrev ran_changed : (call : Call) (code : ℕ) (fault : Option Fault) → RanChange call code fault → (command : Command) → is_change command ≡ true → Ran command call code fault
 ran_changed call code fault changed (a_command.Status flags) is = absurd (true≢false (sym is))
 ran_changed call code fault changed (a_command.Add files) is = changed
 ran_changed call code fault changed (a_command.Forget files) is = changed
@@ -225,7 +236,7 @@ ran_changed call code fault changed (a_command.DebugLoad n) is = absurd (true≢
 
 -- what is said of what a command makes holds of what one did that changes the record
 by_changed : (Of : Makes → Type 0) (call : Call) (code : ℕ) (fault : Option Fault) (changed : RanChange call code fault) (command : Command) (is : is_change command ≡ true)
-    → Of (makes_in call) → Of (made_by command call code fault (ran_changed call code fault changed command is))
+    → Of (come_so changed.come) → Of (made_by command call code fault (ran_changed call code fault changed command is))
 by_changed Of call code fault changed (a_command.Status flags) is by = absurd (true≢false (sym is))
 by_changed Of call code fault changed (a_command.Add files) is by = by
 by_changed Of call code fault changed (a_command.Forget files) is by = by
@@ -242,15 +253,15 @@ answered_changed call code fault is ends status =
     let changed = ends.ran in
     record {
       ran = ran_changed call code fault changed call.command is;
-      cause = changed_cause call is fault changed.shows;
+      cause = changed_cause call is changed.come.read changed.come.work fault changed.shows;
       calm = ends.calm;
       streams = ends.streams;
       tree = ends.tree;
-      memory = λ none. by_changed (λ Does. HadNoMemory Does call) call code fault changed call.command is (changed_memory call is fault changed.shows none);
+      memory = λ none. by_changed (λ Does. HadNoMemory Does call) call code fault changed call.command is (changed_memory call is changed.come.read changed.come.work fault changed.shows none);
       kept = ends.kept;
       crash = by_changed (λ Does. IsSafeFromCrashes Does call.saved) call code fault changed call.command is
-          (safe_from call.saved ends.kept (makes_in call) nothing (λ ground k later within none. asks_none call.command call.looked.tree call.looked.shelf call.saved.new.history k) fault changed.safe);
-      latest = λ calm keep first. latest_safe call.saved.old call.saved.new ends.kept calm keep (makes_in call) nothing first fault (changed.safe calm);
+          (safe_from call.saved ends.kept (come_so changed.come) nothing (λ ground k later within none. asks_none call.command call.looked.tree call.looked.shelf call.saved.new.history k) fault changed.safe);
+      latest = λ calm keep first. latest_safe call.saved.old call.saved.new ends.kept calm keep (come_so changed.come) nothing first fault (changed.safe calm);
       status = status;
     }
   where

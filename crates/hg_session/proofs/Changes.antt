@@ -29,7 +29,7 @@ use Rattle.hg_session.specs.Acts.{AsksBehind, ChangesTree, Makes}
 use Rattle.hg_session.specs.Anew.{IsOverwritten, IsRecorded, MetWriting, WritesOnly}
 use Rattle.hg_session.specs.Reading.{IsOpened, LoadsOrRefuses, by_load, NodesFind}
 use Rattle.hg_session.specs.Call.{Fails, IsLeftAlone, Watched}
-use Rattle.hg_session.specs.Change.{AsksChange, ChangesBehind, IsDone, IsKept, IsMade, IsPublished, IsReadFirst, IsToBlame, IsUnwritten, MetChanging, MetUnfit, stood_read, up_to}
+use Rattle.hg_session.specs.Change.{AsksChange, ChangesBehind, IsDone, IsKept, IsMade, IsPublished, IsReadFirst, IsToBlame, IsUnwritten, MetChanging, MetUnfit, stood_read, up_to, Come}
 use Rattle.hg_session.specs.Changing.{IsSafeHeld}
 use Rattle.hg_session.specs.Loaded.{AsksRecord, Refuses}
 use Rattle.hg_session.specs.Kept.{KeepsLent}
@@ -83,6 +83,10 @@ module _ (Does : Makes) (copy : Watched tree.History) (files : Watched shelf.His
   met_opened IsOf loaded (a_read.Docket fault) sound loads finds alone = absurd finds
   met_opened IsOf loaded (a_read.DataGone ids) sound loads finds alone = absurd finds
   met_opened IsOf loaded a_read.Failed sound loads finds alone = absurd finds
+
+-- it came to nothing
+abbrev pub none_come : (Does : Makes) (files : Watched shelf.History) → Come Does files
+none_come Does files = record { read = None; loaded = tt; work = None; does = tt }
 
 -- ---- the record that was read first
 
@@ -181,12 +185,12 @@ module _ (a b c : Course) (passes : Passes a.history b.history) (goes : Goes b c
 
   -- what becomes of the working copy behind it
   pub changes_by : (command : Command) (copy : Watched tree.History) (opened : Held) (begun : IsOpened loaded recorded opened) → ChangesTree command (table opened) copy
-      → ChangesBehind command copy (record { old = a.history; new = c.history; before = 0; after = 0 })
-  changes_by command copy opened begun changes = inr (recorded, read_first, subst (λ (t : Table). ChangesTree command t copy) (one_table (table opened) recorded begun.same) changes)
+      → ChangesBehind command copy (Some recorded)
+  changes_by command copy opened begun changes = inr (subst (λ (t : Table). ChangesTree command t copy) (one_table (table opened) recorded begun.same) changes)
 
   -- what was asked for, the record first
   pub asks_by : (command : Command) (copy : Watched tree.History) (opened : Held) (begun : IsOpened loaded recorded opened) (mid : History) → Extends mid b.history → c.history.asked ≡ b.history.asked
-      → (IsTrue a.history.told → AsksRecord a.history mid) → (IsTrue mid.told → AsksBehind command copy (table opened) mid b.history) → Extends a.history mid → IsTrue a.history.told → AsksChange command copy a.history c.history
+      → (IsTrue a.history.told → AsksRecord a.history mid) → (IsTrue mid.told → AsksBehind command copy (table opened) mid b.history) → Extends a.history mid → IsTrue a.history.told → AsksChange command copy (Some recorded) a.history c.history
   asks_by command copy opened begun mid past quiet load asks first told = record {
     mid = mid;
     end = b.history;
@@ -194,7 +198,7 @@ module _ (a b c : Course) (passes : Passes a.history b.history) (goes : Goes b c
     later = goes.past;
     quiet = quiet;
     load = load told;
-    behind = inr (recorded, read_first told, subst (λ (t : Table). AsksBehind command copy t mid b.history) (one_table (table opened) recorded begun.same) (asks (first.told ∙ told)));
+    behind = inr (subst (λ (t : Table). AsksBehind command copy t mid b.history) (one_table (table opened) recorded begun.same) (asks (first.told ∙ told)));
   }
 
   module _ (Does : Makes) (opened made : Held) (begun : IsOpened loaded recorded opened) (image : IsOfSameImage opened made) (keeps : KeepsLent opened made)

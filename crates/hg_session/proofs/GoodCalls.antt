@@ -1,6 +1,6 @@
 -- Each command leads from good records to good ones.
 use Rattle.std.proofs.Common.{ℕ, ◌≡◌, ◌≤◌, Bool, List, [], ◌∷◌, Option, Some, None, Ok, sym, ◌∙◌, subst, arith, inl, inr}
-use Rattle.std.specs.Prelude.{IfSome, IsTrue}
+use Rattle.std.specs.Prelude.{IfSome, IsSomeAnd, IsTrue}
 use Rattle.hg_compare.specs.Tracked.{ParentRow}
 use Rattle.hg_entry.specs.Steps.{seen_clean}
 use Rattle.hg_entry.specs.Table.{Table}
@@ -14,7 +14,7 @@ use Rattle.hg_session.proofs.Longer.{right_by_end}
 use Rattle.hg_session.specs.Acts.{AllSteps, ChangesTree, Deed, Stepping, TakesAway, makes_nothing, makes_of, span_of, steps_of}
 use Rattle.hg_session.specs.Answered.{IsAnswered, Ran, made_by}
 use Rattle.hg_session.specs.Call.{Call, Count, IsLeftAlone, Looked, Saved, Sink, Watched}
-use Rattle.hg_session.specs.Change.{ChangesBehind, IsUnwritten, NoneOurs, up_to}
+use Rattle.hg_session.specs.Change.{ChangesBehind, Come, IsUnwritten, NoneOurs, come_so, up_to}
 use Rattle.hg_session.specs.Crash.{IsFirmGround, IsSafeFromCrashes}
 use Rattle.hg_session.specs.Good.{IsFair, IsGoodGround, IsGoodIn, KeepsGood, OthersKeepStood, ReadsRight, StaysGood}
 use Rattle.hg_session.specs.Status.{AreEarnedFor, noted_in}
@@ -108,9 +108,13 @@ changes_past (a_command.Remove gone words) loaded copy is = is.past
 changes_past (a_command.Copy source target) loaded copy is = is.past
 changes_past command loaded copy is = alone_past copy is
 
-behind_past : (command : Command) (copy : Watched tree.History) (files : Watched shelf.History) → ChangesBehind command copy files → tree.Extends copy.old copy.new
-behind_past command copy files (inl alone) = alone_past copy alone
-behind_past command copy files (inr (loaded, read, is)) = changes_past command loaded copy is
+read_past : (command : Command) (copy : Watched tree.History) (read : Option Table) → IsSomeAnd read (λ t. ChangesTree command t copy) → tree.Extends copy.old copy.new
+read_past command copy None is = absurd is
+read_past command copy (Some loaded) is = changes_past command loaded copy is
+
+behind_past : (command : Command) (copy : Watched tree.History) (read : Option Table) → ChangesBehind command copy read → tree.Extends copy.old copy.new
+behind_past command copy read (inl alone) = alone_past copy alone
+behind_past command copy read (inr is) = read_past command copy read is
 
 -- ---- a call
 
@@ -145,12 +149,12 @@ module _ (copy : Watched tree.History) (files : Watched shelf.History) (oversize
   abbrev call : Command → Call
   call command = record { command = command; looked = looked; saved = saved; locks = locks; out = out; err = err }
 
-  change_stays : (command : Command) → Goes saved.old saved.new → IsSafeFromCrashes (makes_of command copy files) saved → StaysGood looked saved
-  change_stays command goes crash by past fair ground =
-      good_stays saved.old saved.new goes fair.calm fair.keep fair.plain fair.parent by fair.published ground.good (shown (goes.past.told ∙ fair.calm.told)) (makes_of command copy files) (may_nothing command copy files)
+  change_stays : (command : Command) (come : Come (makes_of command copy files) files) → Goes saved.old saved.new → IsSafeFromCrashes (come_so come) saved → StaysGood looked saved
+  change_stays command come goes crash by past fair ground =
+      good_stays saved.old saved.new goes fair.calm fair.keep fair.plain fair.parent by fair.published ground.good (shown (goes.past.told ∙ fair.calm.told)) (come_so come) (may_nothing command copy files)
       (λ from after within none. asks_none command copy files files.new from)
-      (λ loaded made said changed does there. made_good copy files (shelf.now files.new).files goes.past fair.calm.told (there_stays files.new files.old.last fair.plain) command by loaded made said changed does there)
-      (safe_upon (makes_of command copy files) saved crash fair.calm fair.keep ground.latest (firm_by looked saved by goes fair ground))
+      (λ loaded made said changed does there. made_good copy files (shelf.now files.new).files goes.past fair.calm.told (there_stays files.new files.old.last fair.plain) command by loaded made said changed does.2 there)
+      (safe_upon (come_so come) saved crash fair.calm fair.keep ground.latest (firm_by looked saved by goes fair ground))
 
   status_stays : (table : Option Table) (notes : NotesData) → IfSome table (λ t. AreEarnedFor looked t notes) → Goes saved.old saved.new → IsSafeFromCrashes (noted_in files table notes) saved → StaysGood looked saved
   status_stays table notes earned goes crash by past fair ground =
@@ -180,10 +184,10 @@ module _ (copy : Watched tree.History) (files : Watched shelf.History) (oversize
       let right = trusted_are_right (rows_in t store) t copy.old copy.new past fair.honest apart trusted in
       record { end = right; each = λ keeps. right_by_end looked t goes.past.later keeps right }
 
-  change_good : (command : Command) → ChangesBehind command copy files → Goes saved.old saved.new → IsSafeFromCrashes (makes_of command copy files) saved → KeepsGood looked saved
-  change_good command changes goes crash =
-      let past = behind_past command copy files changes in
-      record { past = past; stays = change_stays command goes crash; right = reads_right past goes }
+  change_good : (command : Command) (come : Come (makes_of command copy files) files) → ChangesBehind command copy come.read → Goes saved.old saved.new → IsSafeFromCrashes (come_so come) saved → KeepsGood looked saved
+  change_good command come changes goes crash =
+      let past = behind_past command copy come.read changes in
+      record { past = past; stays = change_stays command come goes crash; right = reads_right past goes }
 
   look_good : IsLeftAlone copy → Goes saved.old saved.new → IsSafeFromCrashes makes_nothing saved → KeepsGood looked saved
   look_good alone goes crash = record { past = alone_past copy alone; stays = look_stays goes crash; right = reads_right (alone_past copy alone) goes }
@@ -191,11 +195,11 @@ module _ (copy : Watched tree.History) (files : Watched shelf.History) (oversize
   -- what a command did keeps what is good
   ran_good : (command : Command) (ran : Ran command (call command) code fault) → Goes saved.old saved.new → IsSafeFromCrashes (made_by command (call command) code fault ran) saved → KeepsGood looked saved
   ran_good (a_command.Status flags) ran goes crash = record { past = ran.tree.past; stays = status_stays ran.table ran.notes ran.earned goes crash; right = reads_right ran.tree.past goes }
-  ran_good (a_command.Add words) ran goes crash = change_good (a_command.Add words) ran.copy goes crash
-  ran_good (a_command.Forget words) ran goes crash = change_good (a_command.Forget words) ran.copy goes crash
-  ran_good (a_command.Remove gone words) ran goes crash = change_good (a_command.Remove gone words) ran.copy goes crash
-  ran_good (a_command.Copy source target) ran goes crash = change_good (a_command.Copy source target) ran.copy goes crash
-  ran_good (a_command.SetParents p1 p2) ran goes crash = change_good (a_command.SetParents p1 p2) ran.copy goes crash
+  ran_good (a_command.Add words) ran goes crash = change_good (a_command.Add words) ran.come ran.copy goes crash
+  ran_good (a_command.Forget words) ran goes crash = change_good (a_command.Forget words) ran.come ran.copy goes crash
+  ran_good (a_command.Remove gone words) ran goes crash = change_good (a_command.Remove gone words) ran.come ran.copy goes crash
+  ran_good (a_command.Copy source target) ran goes crash = change_good (a_command.Copy source target) ran.come ran.copy goes crash
+  ran_good (a_command.SetParents p1 p2) ran goes crash = change_good (a_command.SetParents p1 p2) ran.come ran.copy goes crash
   ran_good a_command.DebugDirstate ran goes crash = look_good ran.alone goes crash
   ran_good a_command.DebugScript ran goes crash = look_good ran.idle.copy goes crash
   ran_good (a_command.DebugLoad n) ran goes crash = look_good ran.idle.copy goes crash

@@ -33,13 +33,13 @@ use Rattle.hg_session.proofs.Readings.{read_longer}
 use Rattle.hg_session.proofs.Widening.{ids_longer}
 use Rattle.hg_session.proofs.Locked.{unwritten}
 use Rattle.hg_session.specs.Call.{Count, Looked, Saved, Sink}
-use Rattle.hg_session.specs.Change.{up_to}
+use Rattle.hg_session.specs.Change.{up_to, IsLoadedFirst}
 use Rattle.hg_session.specs.Flags.{wanted_of}
 use Rattle.hg_session.specs.Listed.{IsListable, IsListedFor, IsOwn, IsRightFor, IsUntouched, StatusCause, StatusMet, status_over}
 use Rattle.hg_session.specs.Loaded.{IsLoaded, IsRefused, LoadMet, MetReading}
 use Rattle.hg_session.specs.Look.{Concludes, IsShown, LeavesAt, Stage, at_first, at_printing, at_saving, at_telling}
 use Rattle.hg_session.specs.Put.{Tells}
-use Rattle.hg_session.specs.Status.{ByLoadedFirst, IsLoadedFirst, IsWorked, ListingCause, SaysRows, status_look}
+use Rattle.hg_session.specs.Status.{ByLoadedFirst, IsWorked, ListingCause, SaysRows, status_look}
 use Rattle.hg_session.specs.Looking.{ByLoaded, listed_to}
 use Rattle.hg_session.specs.Told.{Told}
 use Rattle.hg_session.specs.declared.read_fault.ReadFault.{ReadFault}

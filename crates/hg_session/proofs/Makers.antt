@@ -11,7 +11,7 @@ use Rattle.hg_report.specs.declared.fault.Fault.{Fault}
 use Rattle.hg_save.specs.Record.{reading}
 use Rattle.hg_session.specs.Acts.{AllSteps, ByOp, Deed, IsRemoved, Makes, StandsAt, StopsRemoving, TakesAway, makes_of, span_of}
 use Rattle.hg_session.specs.Call.{Saved, Watched}
-use Rattle.hg_session.specs.Change.{IsUnwritten, NoneOurs, Publishes, WroteOnly}
+use Rattle.hg_session.specs.Change.{IsUnwritten, Made, NoneOurs, Publishes, WroteOnly, only_so}
 use Rattle.hg_session.specs.Manifests.{IsReparented, LacksParents, LacksRows, LoadsRows, StopsParents}
 use Rattle.hg_session.specs.Status.{noted_in}
 use Rattle.hg_session.specs.Told.{OnlyRefuses, Told}
@@ -36,6 +36,15 @@ pub record IsWider (Part Whole : Makes) : Type 1 where
   pub stops : (loaded : Table) (fault : Fault) → Part.stops loaded fault → Whole.stops loaded fault
   pub may : (before behind : Scene) → Part.may before behind → Whole.may before behind
   pub fair : FairWider Part Whole
+
+-- also where the record that was read is told, and what was made of it
+pub so_wide : (Part Whole : Makes) → IsWider Part Whole → (read : Option Table) (work : Option Made) → IsWider (only_so Part read work) (only_so Whole read work)
+so_wide Part Whole wide read work = record {
+  does = λ old new said changed is. (is.0, is.1, wide.does old new said changed is.2);
+  stops = λ loaded fault is. (is.0, wide.stops loaded fault is.1);
+  may = wide.may;
+  fair = wide.fair;
+}
 
 -- the files of a moment record it, seen from later on too
 pub stands_later : (c d : Course) → Goes c d → (at : ℕ) → at ≤ c.history.last → (loaded : Table) → StandsAt c at loaded → StandsAt d at loaded

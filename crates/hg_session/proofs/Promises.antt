@@ -22,7 +22,7 @@ use Rattle.hg_ops.specs.declared.refusal.OpFault.TheVariants as an_op
 use Rattle.hg_report.specs.Cause.{of_op}
 use Rattle.hg_session.specs.Acts.{Makes, makes_of}
 use Rattle.hg_session.specs.Call.{Call, Count, Fails, Saved, Serves, Watched}
-use Rattle.hg_session.specs.Change.{ChangesBehind, FailsBehind, IsDone, IsLocked, IsMade, IsReadFirst, IsSafe, MayFollowWriting, AsksChange, MetChanging, MetDoing, MetLocking, MetStop, MetUnfit, NoneOurs, OnlyAnswers, Stretch, makes_in, of_change, up_to}
+use Rattle.hg_session.specs.Change.{ChangesBehind, FailsBehind, IsDone, IsLocked, IsMade, IsReadFirst, IsSafe, MayFollowWriting, AsksChange, MetChanging, MetDoing, MetLocking, MetStop, MetUnfit, NoneOurs, OnlyAnswers, Stretch, makes_in, of_change, up_to, Come, Made, come_so, only_so}
 use Rattle.hg_session.specs.Changing.{FailsOrUnwritten, EndsChange}
 use Rattle.hg_session.specs.Changed.{IsExpectedChange, IsMadeOf, IsStoppedFor, IsUnfitFor, SaysChange, change_look, looks_at_copy}
 use Rattle.hg_session.proofs.Records.{puts_none}
@@ -191,6 +191,28 @@ serves_met a_command.DebugDirstate copy files serves loaded (met, is, stops) = a
 serves_met a_command.DebugScript copy files serves loaded (met, is, stops) = absurd stops
 serves_met (a_command.DebugLoad n) copy files serves loaded (met, is, stops) = absurd stops
 
+-- what is made of the record so far as a command came is made of it
+abbrev made_plain : (Does : Makes) (read : Option Table) (work : Option Made) (files : Files) (made : Table) (said : Told) (changed : Bool) → IsMadeOf (only_so Does read work) files made said changed → IsMadeOf Does files made said changed
+made_plain Does read work files made said changed is = record { loaded = is.loaded; recorded = is.recorded; does = is.does.2 }
+
+unfit_plain : (Does : Makes) (read : Option Table) (work : Option Made) (files : Files) (fault : EncodeFault) → IsUnfitFor (only_so Does read work) files fault → IsUnfitFor Does files fault
+unfit_plain Does read work files fault is = record { made = is.made; said = is.said; is = made_plain Does read work files is.made is.said true is.is; unfit = is.unfit }
+
+stop_plain : (Does : Makes) (read : Option Table) (work : Option Made) (files : Files) (fault : Fault) → IsStoppedFor (only_so Does read work) files fault → IsStoppedFor Does files fault
+stop_plain Does read work files fault is = record { loaded = is.loaded; recorded = is.recorded; stops = is.stops.1 }
+
+-- what is expected of a command so far as it came is expected of it
+expected_plain : (Does : Makes) (read : Option Table) (work : Option Made) (files : Files) (fault : Option Fault) → IsExpectedChange (only_so Does read work) files fault → IsExpectedChange Does files fault
+expected_plain Does read work files None is = record { made = is.made; said = is.said; changed = is.changed; is = made_plain Does read work files is.made is.said is.changed is.is; fits = is.fits }
+expected_plain Does read work files (Some (a_fault.TooLarge size)) is = unfit_plain Does read work files (an_encode.TooLarge size) is
+expected_plain Does read work files (Some a_fault.IdsSpent) is = unfit_plain Does read work files an_encode.IdsSpent is
+expected_plain Does read work files (Some (a_fault.NoManifest id)) is = stop_plain Does read work files (a_fault.NoManifest id) is
+expected_plain Does read work files (Some (a_fault.ManifestTooLarge size)) is = stop_plain Does read work files (a_fault.ManifestTooLarge size) is
+expected_plain Does read work files (Some (a_fault.ManifestLine line)) is = stop_plain Does read work files (a_fault.ManifestLine line) is
+expected_plain Does read work files (Some (a_fault.ManifestOrder line)) is = stop_plain Does read work files (a_fault.ManifestOrder line) is
+expected_plain Does read work files (Some (a_fault.NoContents id)) is = stop_plain Does read work files (a_fault.NoContents id) is
+expected_plain Does read work files (Some fault) is = is
+
 -- a status of lines is 0 or 1
 pub status_either : (n : ℕ) (lines : List ℕ) → n ≡ status_of lines → (n ≡ 0) ⊎ (n ≡ 1)
 status_either n [] is = inl is
@@ -220,8 +242,8 @@ no_stream a_change_fault.ShelfFailed = refl
 -- ---- the whole command
 
 module _ (command : Command) (copy : Watched tree.History) (a b : Course) (before after : ℕ) (locks oversize : Count) (out err : Watched (Option (List ℕ)))
-    (silent : IsSilent out) (uncounted : oversize.after ≡ oversize.before) (changes : ChangesBehind command copy (record { old = a.history; new = b.history; before = before; after = after }))
-    (asked : IsTrue a.history.told → AsksChange command copy a.history b.history) (kept : Goes a b) where
+    (silent : IsSilent out) (uncounted : oversize.after ≡ oversize.before) (come : Come (makes_of command copy (record { old = a.history; new = b.history; before = before; after = after })) (record { old = a.history; new = b.history; before = before; after = after }))
+    (changes : ChangesBehind command copy come.read) (asked : IsTrue a.history.told → AsksChange command copy come.read a.history b.history) (kept : Goes a b) where
   abbrev call : Call
   call = record {
     command = command;
@@ -232,8 +254,9 @@ module _ (command : Command) (copy : Watched tree.History) (a b : Course) (befor
     err = err;
   }
 
+  -- what the command makes, so far as it came
   abbrev Does : Makes
-  Does = makes_in call
+  Does = come_so come
 
   -- what came of the lock, where this is the fault
   abbrev pub LockedBy : Option Fault → Type 0
@@ -266,6 +289,7 @@ module _ (command : Command) (copy : Watched tree.History) (a b : Course) (befor
       → EndsChange call status None
   ran_done locked status stretch lines done grown is safe calm_tree calm_shelf calm_err unheld well = record {
     ran = record {
+      come = come;
       shows = record {
         done = λ none. record {
           ready = tt;
@@ -279,7 +303,8 @@ module _ (command : Command) (copy : Watched tree.History) (a b : Course) (befor
       ends = λ none. is;
       safe = safe;
       held = λ rose. absurd (unheld rose);
-      complete = λ quiet r steady. done_own Does nothing copy a b before after kept.past quiet.shelf stretch.from stretch.to (refusing lines) done;
+      complete = λ quiet r steady.
+          expected_plain (makes_in call) come.read come.work (now a.history).files None (done_own Does nothing copy a b before after kept.past quiet.shelf stretch.from stretch.to (refusing lines) done);
       silent = silent;
       uncounted = uncounted;
       copy = changes;
@@ -301,6 +326,7 @@ module _ (command : Command) (copy : Watched tree.History) (a b : Course) (befor
       → (Undisturbed a b → IsSafe Does call.saved None) → (locks.before < locks.after → ⊥) → (copy.before < copy.after → ⊥) → (status : ℕ) → EndsChange call status (Some a_fault.ErrFailed)
   ran_untold locked stretch lines done grown failed calm_shelf safe unheld well status = record {
     ran = record {
+      come = come;
       shows = record {
         done = λ none. absurd (cc none);
         left = (
@@ -368,11 +394,14 @@ module _ (command : Command) (copy : Watched tree.History) (a b : Course) (befor
   ran_fault status fault answered locked (inl same) met safe written held failed line =
       subst (λ (f : Fault). TellsLine err.old err.new err.before err.after f → EndsChange call status (Some f)) (sym same) (λ told. record {
         ran = record {
+          come = come;
           shows = record { done = λ none. absurd (cc none); left = stage_same fault met written told };
           ends = λ none. absurd (cc none);
           safe = safe;
           held = λ rose. inl (ap (λ (f : ChangeFault). Some (of_change f)) (held rose));
-          complete = λ quiet r steady. locked_own fault (safe (calm_own a b quiet.shelf)) met quiet.shelf (serves_met command copy call.looked.shelf (λ is. (quiet.copy is).1)) quiet.serves steady;
+          complete = λ quiet r steady.
+              expected_plain (makes_in call) come.read come.work (now a.history).files (Some (of_change fault))
+              (locked_own fault (safe (calm_own a b quiet.shelf)) met quiet.shelf (λ loaded stops. serves_met command copy call.looked.shelf (λ is. (quiet.copy is).1) loaded stops.1) quiet.serves steady);
           silent = silent;
           uncounted = uncounted;
           copy = changes;
@@ -387,6 +416,7 @@ module _ (command : Command) (copy : Watched tree.History) (a b : Course) (befor
   ran_fault status fault answered locked (inr memory) met safe written held failed line =
       subst (λ (f : Fault). TellsLine err.old err.new err.before err.after f → EndsChange call status (Some f)) (sym memory) (λ told. record {
         ran = record {
+          come = come;
           shows = record { done = λ none. absurd (cc none); left = stage_memory fault met written told };
           ends = λ none. absurd (cc none);
           safe = λ calm. safe_any (of_change fault) (safe calm);

@@ -21,7 +21,7 @@ use Rattle.hg_save.specs.declared.loaded.Loaded.{Loaded}
 use Rattle.hg_session.proofs.SameTables.{one_table}
 use Rattle.hg_session.specs.Reading.{IsOpened, LoadsOrRefuses, by_load, Answers, NodesFind, Reads}
 use Rattle.hg_session.specs.Call.{Fails, Serves, Watched}
-use Rattle.hg_session.specs.Change.{IsReadFirst, IsReadSome, up_to}
+use Rattle.hg_session.specs.Change.{IsReadFirst, up_to}
 use Rattle.hg_session.specs.Load.{of_read}
 use Rattle.hg_session.specs.Loaded.{IsLoaded, IsRead, IsRefused, IsUnreadable, LoadMet, MetReading, Refuses, WasLoaded}
 use Rattle.hg_session.specs.declared.read_fault.ReadFault.{ReadFault}
@@ -139,7 +139,7 @@ pub first_read : (files : Watched History) (table : Table) → (IsTrue files.old
 first_read files table first told =
     let is = first told in read_longer files.old (up_to is.upto files.new) files.new table (extends_up_to files.new is.upto is.within) is.read
 
-pub was_loaded : (files : Watched History) → IsReadSome files → WasLoaded files
+pub was_loaded : (files : Watched History) → (IsTrue files.old.told → (loaded : Table) × IsReadFirst files.old files.new loaded) → WasLoaded files
 was_loaded files some told =
     let s = some told in (s.0, read_longer files.old (up_to s.1.upto files.new) files.new s.0 (extends_up_to files.new s.1.upto s.1.within) s.1.read)
 

@@ -14,12 +14,12 @@ use Rattle.hg_session.proofs.Looks.{answer_is, calm_by, joined, looks_by}
 use Rattle.hg_session.proofs.Saves.{saves_by}
 use Rattle.hg_session.specs.Acts.{Makes}
 use Rattle.hg_session.specs.Call.{Call, Count, Looked, Saved, Sink, Watched}
-use Rattle.hg_session.specs.Change.{IsSafe, Stretch}
+use Rattle.hg_session.specs.Change.{IsSafe, Stretch, IsLoadedFirst}
 use Rattle.hg_session.specs.Flags.{wanted_of}
 use Rattle.hg_session.specs.Look.{Concludes, IsCalm, Look}
 use Rattle.hg_session.specs.Looking.{EndsAs, fault_in, ByLoaded, DoesStatus, listed_to}
 use Rattle.hg_session.specs.Put.{IsFaultOrMemory, OnStream}
-use Rattle.hg_session.specs.Status.{ByLoadedFirst, IsLoadedFirst, IsLockedLast, MetSaving, RanStatus, SavesLast, SaysRows, noted_in, status_look}
+use Rattle.hg_session.specs.Status.{ByLoadedFirst, IsLockedLast, MetSaving, RanStatus, SavesLast, SaysRows, noted_in, status_look}
 use Rattle.hg_session.specs.declared.read_fault.ReadFault.TheVariants as a_read
 use Rattle.hg_session.specs.Saving.{FailsBehindNotes, IsNoted, IsNotedHeld, LastsNoted}
 use Rattle.hg_session.specs.Told.{status_of}

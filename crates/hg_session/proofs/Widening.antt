@@ -1,6 +1,7 @@
 -- What was done while the lock was held, said of the whole call.
 use Rattle.std.proofs.Common.{ℕ, ◌≡◌, ◌≤◌, ◌<◌, Bool, true, List, ◌∷◌, [], map, Option, Some, None, Result, Ok, IsTrue, refl, sym, ap, ◌∙◌, subst, arith, inl, inr}
 use Rattle.std.specs.List.{AllByRecursion}
+use Rattle.std.specs.Prelude.{IfSome, IsSomeAnd}
 use Rattle.std.proofs.lemmas.Bool.{cases_lt}
 use Rattle.hg_base.specs.Fault.{Rose}
 use Rattle.hg_docket.specs.Docket.{docket_of}
@@ -27,7 +28,7 @@ use Rattle.hg_save.specs.Saved.{IsExact, IsLatest, ReadsAsBeforeOr, TurnsOnce, W
 use Rattle.hg_save.specs.Behind.{IsSolid}
 use Rattle.hg_session.specs.Acts.{Makes}
 use Rattle.hg_session.specs.Call.{Watched}
-use Rattle.hg_session.specs.Change.{AsksChange, ChangesBehind, IsDone, IsFirm, IsKept, IsMade, IsPublished, IsReadFirst, IsSafe, IsUnwritten, IsToBlame, IsWritten, MetChanging, MetMade, MetStop, MetUnfit, NoneOurs, Stretch, up_to}
+use Rattle.hg_session.specs.Change.{AsksChange, IsDone, IsFirm, IsKept, IsMade, IsPublished, IsReadFirst, IsSafe, IsUnwritten, IsToBlame, IsWritten, MetChanging, MetMade, MetStop, MetUnfit, NoneOurs, Stretch, up_to, Come, IsLoadedFirst, Made}
 use Rattle.hg_session.specs.Changing.{IsSafeHeld}
 use Rattle.hg_session.specs.Ways.{Fits, IsUnfit, KeepsBy, KeepsUnchanged, Stood, stood_by, stood_in}
 use Rattle.hg_session.specs.Loaded.{LoadMet, MetReading, IsRefused}
@@ -167,27 +168,23 @@ module _ (a b c d : Course) (lock : Waits a.history b.history) (unlock : Waits c
         };
       }
 
-  -- what became of the working copy behind it
-  pub changes_wide : (command : Command) (copy : Watched tree.History) → ChangesBehind command copy (record { old = b.history; new = c.history; before = 0; after = 0 })
-      → ChangesBehind command copy (record { old = a.history; new = d.history; before = 0; after = 0 })
-  changes_wide command copy (inl alone) = inl alone
-  changes_wide command copy (inr (loaded, read, changes)) = inr (loaded, λ told. read_wide loaded (read (p.past.told ∙ told)), changes)
-
   -- what was asked for, where taking the lock and giving it back ask for nothing
-  pub asks_whole : (command : Command) (copy : Watched tree.History) → b.history.asked ≡ a.history.asked → d.history.asked ≡ c.history.asked → AsksChange command copy b.history c.history → AsksChange command copy a.history d.history
-  asks_whole command copy before behind is = record {
+  pub asks_whole : (command : Command) (copy : Watched tree.History) (read : Option Table) → b.history.asked ≡ a.history.asked → d.history.asked ≡ c.history.asked → AsksChange command copy read b.history c.history → AsksChange command copy read a.history d.history
+  asks_whole command copy read before behind is = record {
     mid = is.mid;
     end = is.end;
     past = is.past;
     later = extends_trans is.end c.history d.history is.later r.past;
     quiet = behind ∙ is.quiet;
     load = asks_wide a.history b.history is.mid is.mid p.past before (extends_same is.mid) refl is.load;
-    behind =
-        elim is.behind [
-          | inl none ↦ inl none
-          | inr asks ↦ inr (asks.0, read_wide asks.0 asks.1, asks.2)
-        ];
+    behind = is.behind;
   }
+
+  -- which record was read first in the change was in the call
+  pub loaded_wide : (before after start end : ℕ) (o : Option Table) → IfSome o (IsLoadedFirst (record { old = b.history; new = c.history; before = before; after = after }))
+      → IfSome o (IsLoadedFirst (record { old = a.history; new = d.history; before = start; after = end }))
+  loaded_wide before after start end None loaded = tt
+  loaded_wide before after start end (Some t) loaded = λ told. read_wide t (loaded (p.past.told ∙ told))
 
   -- what a try read is the same, seen from the end
   pub stood_wide : (tried : Try) → tried.docket ≤ c.history.last → tried.file ≤ c.history.last → stood_by d.history tried ≡ stood_by c.history tried
@@ -381,3 +378,15 @@ module _ (a b c d : Course) (lock : Waits a.history b.history) (unlock : Waits c
     met_wide (a_change_fault.Encode an_encode.IdsSpent) rose met = unfit_wide an_encode.IdsSpent met
     met_wide a_change_fault.Held rose met = absurd met
     met_wide a_change_fault.ShelfFailed rose met = (rose met.0, elim met.1 [ inl alone ↦ inl alone | inr made ↦ inr (done_met made) ])
+
+    pub does_read : (read : Option Table) (w : Made) → IsSomeAnd read (λ t. Part.does t w.table w.said w.changed) → IsSomeAnd read (λ t. Whole.does t w.table w.said w.changed)
+    does_read None w does = absurd does
+    does_read (Some t) w does = wide.does t w.table w.said w.changed does
+
+    pub does_work : (read : Option Table) (work : Option Made) → IfSome work (λ w. IsSomeAnd read (λ t. Part.does t w.table w.said w.changed)) → IfSome work (λ w. IsSomeAnd read (λ t. Whole.does t w.table w.said w.changed))
+    does_work read None does = tt
+    does_work read (Some w) does = does_read read w does
+
+    -- so far as it came in the change it came in the call
+    abbrev pub come_wide : Come Part part → Come Whole whole
+    come_wide come = record { read = come.read; loaded = loaded_wide before after start end come.read come.loaded; work = come.work; does = does_work come.read come.work come.does }

@@ -7,7 +7,7 @@ use Rattle.hg_save.specs.Saved.{IsLatest}
 use Rattle.hg_session.specs.Acts.{Makes, makes_nothing}
 use Rattle.hg_session.specs.Call.{Call, Count, Fails, IsLeftAlone, Looked, Saved, Sink}
 use Rattle.hg_session.specs.Cause.{CommandCause}
-use Rattle.hg_session.specs.Change.{IsUnwritten, WroteOnly, makes_in}
+use Rattle.hg_session.specs.Change.{IsUnwritten, WroteOnly, come_so}
 use Rattle.hg_session.specs.Changed.{RanChange}
 use Rattle.hg_session.specs.Crash.{IsSafeFromCrashes}
 use Rattle.hg_session.specs.Debug.{RanRecord}
@@ -57,11 +57,11 @@ Ran (a_command.DebugLoad n) call code fault = IsUnbuilt call code fault
 -- what a command makes of the record
 abbrev pub made_by : (command : Command) (call : Call) (code : ℕ) (fault : Option Fault) → Ran command call code fault → Makes
 made_by (a_command.Status flags) call code fault ran = noted_in call.looked.shelf ran.table ran.notes
-made_by (a_command.Add files) call code fault ran = makes_in call
-made_by (a_command.Forget files) call code fault ran = makes_in call
-made_by (a_command.Remove after files) call code fault ran = makes_in call
-made_by (a_command.Copy source target) call code fault ran = makes_in call
-made_by (a_command.SetParents p1 p2) call code fault ran = makes_in call
+made_by (a_command.Add files) call code fault ran = come_so ran.come
+made_by (a_command.Forget files) call code fault ran = come_so ran.come
+made_by (a_command.Remove after files) call code fault ran = come_so ran.come
+made_by (a_command.Copy source target) call code fault ran = come_so ran.come
+made_by (a_command.SetParents p1 p2) call code fault ran = come_so ran.come
 made_by a_command.DebugDirstate call code fault ran = makes_nothing
 made_by a_command.DebugScript call code fault ran = makes_nothing
 made_by (a_command.DebugLoad n) call code fault ran = makes_nothing

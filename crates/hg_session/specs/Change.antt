@@ -1,5 +1,5 @@
 -- What a command that changes the record answers and leaves, and why.
-use Rattle.std.specs.Prelude.{ℕ, ◌≡◌, ◌+◌, ◌⊎◌, ◌≤◌, ◌<◌, Bool, true, false, [], Option, Some, None, Ok, IsTrue}
+use Rattle.std.specs.Prelude.{ℕ, ◌≡◌, ◌+◌, ◌⊎◌, ◌≤◌, ◌<◌, Bool, true, false, [], Option, Some, None, Ok, IsTrue, IfSome, IsSomeAnd}
 use Rattle.hg_append.specs.declared.encoding.Encoded.{Encoded}
 use Rattle.hg_append.specs.declared.fault.EncodeFault.{EncodeFault}
 use Rattle.hg_append.specs.declared.way.Way.TheVariants as a_way
@@ -63,6 +63,36 @@ pub record IsMade (Does : Makes) (files : Watched shelf.History) (made : Table) 
   pub loaded : Table
   pub read : IsTrue files.old.told → IsReadFirst files.old files.new loaded
   pub does : Does.does loaded made said changed
+
+-- the record of this table was read in the call, where the files are told, before the caller made a step
+abbrev pub IsLoadedFirst : Watched shelf.History → Table → Type 0
+IsLoadedFirst files table = IsTrue files.old.told → IsReadFirst files.old files.new table
+
+-- what a command made of the record that it read, what it told, and whether something was changed
+pub record Made : Type 0 where
+  pub table : Table
+  pub said : Told
+  pub changed : Bool
+
+-- how far a command came in a call: which record it read, if it read one, and what it made of that, if it made something
+pub record Come (Does : Makes) (files : Watched shelf.History) : Type 0 where
+  pub read : Option Table
+  pub loaded : IfSome read (IsLoadedFirst files)
+  pub work : Option Made
+  pub does : IfSome work (λ w. IsSomeAnd read (λ t. Does.does t w.table w.said w.changed))
+
+-- what a command makes of the record, where it read this one, and made this of it: of no other one, and nothing else
+abbrev pub only_so : Makes → Option Table → Option Made → Makes
+only_so Does read work = record {
+  does = λ loaded made said changed. (read ≡ Some loaded) × (work ≡ Some (record { table = made; said = said; changed = changed })) × Does.does loaded made said changed;
+  stops = λ loaded fault. (read ≡ Some loaded) × Does.stops loaded fault;
+  may = Does.may;
+  fair = Does.fair;
+}
+
+-- so far as it came
+abbrev pub come_so : {Does : Makes} {files : Watched shelf.History} → Come Does files → Makes
+come_so {Does = Does} come = only_so Does come.read come.work
 
 -- a stretch of a call from where the caller took the lock to where it gave it back; outside it the caller makes no step
 pub record Stretch (old new : shelf.History) : Type 0 where
@@ -162,15 +192,15 @@ pub record IsWritten (stood : Stood) (made found : Table) (before : shelf.Files)
   pub kept_lists : plan_of held ≡ a_way.Append → KeepsUnchanged held behind.files
   pub kept_left : plan_of held ≡ a_way.Append → (f : shelf.Files) → behind.leaves f → KeepsUnchanged held f
 
--- the record was asked for, and behind it, up to a place, what its command needs
-pub record AsksChange (command : Command) (copy : Watched tree.History) (old new : shelf.History) : Type 0 where
+-- the record was asked for, and behind it, up to a place, what its command needs by the one that was read
+pub record AsksChange (command : Command) (copy : Watched tree.History) (read : Option Table) (old new : shelf.History) : Type 0 where
   pub mid : shelf.History
   pub end : shelf.History
   pub past : shelf.Extends mid end
   pub later : shelf.Extends end new
   pub quiet : new.asked ≡ end.asked
   pub load : AsksRecord old mid
-  pub behind : (end.asked ≡ mid.asked) ⊎ ((loaded : Table) × IsReadFirst old new loaded × AsksBehind command copy loaded mid end)
+  pub behind : (end.asked ≡ mid.asked) ⊎ IsSomeAnd read (λ loaded. AsksBehind command copy loaded mid end)
 
 -- at the second of two moments reads show a record of the table that was made of another record, and so does whatever a crash leaves, unless nothing was to be
 -- published
@@ -209,14 +239,9 @@ pub record MetUnfit (Does : Makes) (files : Watched shelf.History) (fault : Enco
   pub is : IsMade Does files made said true
   pub unfit : (told : IsTrue files.old.told) → IsUnfit (stood_read (is.read told)) made fault
 
--- the record was read in the call, where the files are told
-abbrev pub IsReadSome : Watched shelf.History → Type 0
-IsReadSome files = IsTrue files.old.told → (loaded : Table) × IsReadFirst files.old files.new loaded
-
 -- the working copy was left alone, or a record was read, and behind it this became of it
-abbrev pub ChangesBehind : Command → Watched tree.History → Watched shelf.History → Type 0
-ChangesBehind command copy files =
-    IsLeftAlone copy ⊎ ((loaded : Table) × (IsTrue files.old.told → IsReadFirst files.old files.new loaded) × ChangesTree command loaded copy)
+abbrev pub ChangesBehind : Command → Watched tree.History → Option Table → Type 0
+ChangesBehind command copy read = IsLeftAlone copy ⊎ IsSomeAnd read (λ loaded. ChangesTree command loaded copy)
 
 -- the record was read in the call, and this stops what is made of it
 pub record MetStop (Does : Makes) (files : Watched shelf.History) (fault : Fault) : Type 0 where

@@ -11,7 +11,7 @@ use Rattle.hg_save.specs.Others.{KeepsRecords}
 use Rattle.hg_save.specs.Record.{reading}
 use Rattle.hg_session.specs.Acts.{Makes}
 use Rattle.hg_session.specs.Call.{Call, Looked, Serves}
-use Rattle.hg_session.specs.Change.{AsksChange, ChangesBehind, IsDone, IsLocked, IsSafe, MetChanging, MetLocking, Stretch, WroteOnly, makes_in, of_change}
+use Rattle.hg_session.specs.Change.{AsksChange, ChangesBehind, Come, come_so, IsDone, IsLocked, IsSafe, MetChanging, MetLocking, Stretch, WroteOnly, makes_in, of_change}
 use Rattle.hg_session.specs.Loaded.{IsUnreadable}
 use Rattle.hg_session.specs.Look.{Look, Concludes, saves_first}
 use Rattle.hg_session.specs.Put.{IsFaultOrMemory, IsSilent}
@@ -105,13 +105,15 @@ pub record IsQuietFor (command : Command) (looked : Looked) : Type 0 where
 
 -- what a command that changes the record did that ended with this status and this fault, or with none
 pub record RanChange (call : Call) (status : ℕ) (fault : Option Fault) : Type 0 where
+  -- the record that was read in the call, where one was, and what was made of it, where something was: all that follows speaks of these
+  pub come : Come (makes_in call) call.looked.shelf
   -- without a fault each word did what it says to the record that was read, the refused ones were told, and the rest is recorded; and with one: where it
   -- was met, why, and what stands in both streams
-  pub shows : Concludes (change_look (makes_in call) call) call.out call.err fault
+  pub shows : Concludes (change_look (come_so come) call) call.out call.err fault
   -- without a fault the status is 1 exactly where a word was refused
   pub ends : (none : fault ≡ None) → status ≡ status_of (shows.done none).said.refused
   -- whatever the answer, at each moment of the call a crash leaves the record as it was or as it is after, and so do reads
-  pub safe : Undisturbed call.saved.old call.saved.new → IsSafe (makes_in call) call.saved fault
+  pub safe : Undisturbed call.saved.old call.saved.new → IsSafe (come_so come) call.saved fault
   -- a lock that was refused is told as such
   pub held : call.locks.before < call.locks.after → IsFaultOrMemory fault a_fault.Held
   -- where nobody else steps, no count rises and no lock is refused, the answer is the expected one, or there was no memory
@@ -121,8 +123,8 @@ pub record RanChange (call : Call) (status : ℕ) (fault : Option Fault) : Type 
   pub silent : IsSilent call.out
   pub uncounted : call.looked.oversize.after ≡ call.looked.oversize.before
   -- what becomes of the working copy, whatever was answered
-  pub copy : ChangesBehind call.command call.looked.tree call.looked.shelf
+  pub copy : ChangesBehind call.command call.looked.tree come.read
   -- below `.hg` it asks for the record, and behind it for what its command needs
-  pub asked : IsTrue call.looked.shelf.old.told → AsksChange call.command call.looked.tree call.looked.shelf.old call.looked.shelf.new
+  pub asked : IsTrue call.looked.shelf.old.told → AsksChange call.command call.looked.tree come.read call.looked.shelf.old call.looked.shelf.new
   -- the lock was called for once, also where nothing was to be changed
-  pub locked : IsLocked (makes_in call) call.looked.tree call.looked.shelf call.saved call.locks fault
+  pub locked : IsLocked (come_so come) call.looked.tree call.looked.shelf call.saved call.locks fault

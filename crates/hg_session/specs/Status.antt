@@ -31,7 +31,7 @@ use Rattle.hg_save.specs.Others.{KeepsRecords}
 use Rattle.hg_save.specs.Record.{record_in}
 use Rattle.hg_session.specs.Acts.{Makes, makes_nothing}
 use Rattle.hg_session.specs.Call.{Call, Count, Fails, Looked, Saved, Serves, Watched}
-use Rattle.hg_session.specs.Change.{IsReadFirst, IsSafe, IsUnwritten}
+use Rattle.hg_session.specs.Change.{IsLoadedFirst, IsSafe, IsUnwritten}
 use Rattle.hg_session.specs.Flags.{style_of, wanted_of}
 use Rattle.hg_session.specs.Listed.{AsksBelow, AsksLittle, AsksOwn, IsAskedAt, IsListable, IsListed, IsListedFor, IsOwn, IsRightFor, ReadsLittle, StatusCause, first_parent}
 use Rattle.hg_session.specs.Load.{of_read}
@@ -214,11 +214,7 @@ pub record SavesLast (Own : Try → Type 0) (files : Watched shelf.History) (sav
   -- docket stood, or what would be written is too large, or no identifier is left
   pub saves : fault ≡ None → IsSomeAnd table (λ t. IsBlank notes ⊎ (Rose locks.before locks.after ⊎ IsNotedHeld Own files.old t notes saved))
 
--- a table was read in the call, before the caller made a step, where the files are told
-abbrev pub IsLoadedFirst : Watched shelf.History → Table → Type 0
-IsLoadedFirst files table = IsTrue files.old.told → IsReadFirst files.old files.new table
-
--- the last try by which it was
+-- the last try by which a table was read first
 abbrev pub ByLoadedFirst : (files : Watched shelf.History) (table : Option Table) → IfSome table (IsLoadedFirst files) → Try → Type 0
 ByLoadedFirst files None loaded tried = ⊥
 ByLoadedFirst files (Some table) loaded tried = (told : IsTrue files.old.told) × (tried ≡ (loaded told).read.tried.last)

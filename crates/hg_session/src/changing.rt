@@ -14,7 +14,7 @@ ghost use Rattle.hg_session.specs.Anew.{IsRecorded, MetWriting, WritesOnly};
 ghost use Rattle.hg_session.specs.Reading.{IsOpened, LoadsOrRefuses, NodesFind};
 ghost use Rattle.hg_session.specs.Call.{saved_by, watched};
 ghost use Rattle.hg_session.specs.Change.{AsksChange, ChangesBehind, IsDone, MetChanging, of_change};
-ghost use Rattle.hg_session.specs.Changing.{FailsOrUnwritten, IsSafeHeld, fault_of};
+ghost use Rattle.hg_session.specs.Changing.{FailsOrUnwritten, IsSafeHeld, fault_of, CameHeld};
 ghost use Rattle.hg_session.specs.Loaded.{AsksRecord};
 ghost use Rattle.hg_session.specs.Ways.{CanWrite};
 ghost use Rattle.hg_ops.specs.declared.refusal.OpFault.TheVariants as an_op_fault;
@@ -88,52 +88,20 @@ pub(crate) fn change_locked<T: Tree, S: Shelf>(
     shelf: &mut S,
 ) -> Result<Vec<u8>, ChangeFault>
     requires { (S.history shelf.old).ours ≡ true }
-    ensures done { IfOk
-        result
-        (λ lines. IsDone
-        (makes_of
+    // `CameHeld` in specs/Changing.antt.
+    ensures came { CameHeld
         command.now
         (watched T.history T.faults tree.old tree.new)
-        (watched S.history S.faults shelf.old shelf.new))
         (watched S.history S.faults shelf.old shelf.new)
         (saved_by S.history S.images shelf.old shelf.new)
-        (S.history shelf.old).last
-        (S.history shelf.new).last
-        (refusing lines.items)) }
-    ensures met { IfErr
-        result
-        (MetChanging
-        (makes_of
-        command.now
-        (watched T.history T.faults tree.old tree.new)
-        (watched S.history S.faults shelf.old shelf.new))
-        (watched T.history T.faults tree.old tree.new)
-        (watched S.history S.faults shelf.old shelf.new)) }
-    ensures safe { Undisturbed (course (S.history shelf.old) (S.images shelf.old)) (course (S.history shelf.new) (S.images shelf.new))
-        → IsSafeHeld
-        (makes_of
-        command.now
-        (watched T.history T.faults tree.old tree.new)
-        (watched S.history S.faults shelf.old shelf.new))
-        (saved_by S.history S.images shelf.old shelf.new)
-        (fault_of result) }
+        result }
     ensures unwritten { IfErr result (FailsOrUnwritten (S.history shelf.old) (S.history shelf.new)) }
-    ensures copy { ChangesBehind
-        command.now
-        (watched T.history T.faults tree.old tree.new)
-        (watched S.history S.faults shelf.old shelf.new) }
     ensures failed { T.faults tree.old < T.faults tree.new → result ≡ Err (a_fault.Op an_op_fault.TreeFailed) }
     ensures calm_tree { OnOk result (T.faults tree.new ≡ T.faults tree.old) }
     ensures calm_shelf { OnOk result (S.faults shelf.new ≡ S.faults shelf.old) }
     ensures later { S.faults shelf.old ≤ S.faults shelf.new }
     ensures kept { Goes (course (S.history shelf.old) (S.images shelf.old)) (course (S.history shelf.new) (S.images shelf.new)) }
     ensures ours { (S.history shelf.new).ours ≡ (S.history shelf.old).ours }
-    ensures asked { IsTrue (S.history shelf.old).told
-        → AsksChange
-        command.now
-        (watched T.history T.faults tree.old tree.new)
-        (S.history shelf.old)
-        (S.history shelf.new) }
     ensures lock { IsTrue (S.history shelf.old).told → IsHeld (S.history shelf.old) (S.history shelf.new) }
     ensures uncalled { (S.history shelf.new).locks ≡ (S.history shelf.old).locks }
     ensures locks { S.held shelf.new ≡ S.held shelf.old }

@@ -4,7 +4,7 @@ ghost use Rattle.std.specs.Prelude.{◌≡◌, ◌⊎◌, ◌<◌, List, Option,
 ghost use Rattle.hg_session.specs.Acts.{makes_of};
 ghost use Rattle.hg_session.specs.Call.{Count, Sink, counted, saved_by, watched};
 ghost use Rattle.hg_session.specs.Change.{AsksChange, ChangesBehind, IsDone, IsLocked, IsSafe, MetLocking, Stretch, of_change};
-ghost use Rattle.hg_session.specs.Changing.{FailsOrUnwritten, fault_of, once_freed, EndsChange};
+ghost use Rattle.hg_session.specs.Changing.{FailsOrUnwritten, fault_of, once_freed, EndsChange, CameLocked};
 ghost use Rattle.hg_session.specs.Loaded.{AsksRecord};
 ghost use Rattle.hg_session.specs.Put.{IsSilent};
 ghost use Rattle.hg_ops.specs.declared.refusal.OpFault.TheVariants as an_op_fault;
@@ -48,62 +48,20 @@ fn change<T: Tree, S: Shelf>(
     tree: &mut T,
     shelf: &mut S,
 ) -> Result<Vec<u8>, ChangeFault>
-    ensures done { IfOk
-        result
-        (λ lines. (stretch : Stretch (S.history shelf.old) (S.history shelf.new)) × IsDone
-        (makes_of
+    // `CameLocked` in specs/Changing.antt.
+    ensures came { CameLocked
         command.now
-        (watched T.history T.faults tree.old tree.new)
-        (watched S.history S.faults shelf.old shelf.new))
-        (watched S.history S.faults shelf.old shelf.new)
-        (saved_by S.history S.images shelf.old shelf.new)
-        stretch.from
-        stretch.to
-        (refusing lines.items)) }
-    ensures met { IfErr
-        result
-        (MetLocking
-        (makes_of
-        command.now
-        (watched T.history T.faults tree.old tree.new)
-        (watched S.history S.faults shelf.old shelf.new))
-        (watched T.history T.faults tree.old tree.new)
-        (watched S.history S.faults shelf.old shelf.new)
-        (counted S.held shelf.old shelf.new)) }
-    ensures safe { Undisturbed (course (S.history shelf.old) (S.images shelf.old)) (course (S.history shelf.new) (S.images shelf.new))
-        → IsSafe
-        (makes_of
-        command.now
-        (watched T.history T.faults tree.old tree.new)
-        (watched S.history S.faults shelf.old shelf.new))
-        (saved_by S.history S.images shelf.old shelf.new)
-        (fault_of result) }
-    ensures unwritten { IfErr result (FailsOrUnwritten (S.history shelf.old) (S.history shelf.new)) }
-    ensures held { S.held shelf.old < S.held shelf.new → result ≡ Err a_fault.Held }
-    ensures failed { T.faults tree.old < T.faults tree.new → result ≡ Err (a_fault.Op an_op_fault.TreeFailed) }
-    ensures copy { ChangesBehind
-        command.now
-        (watched T.history T.faults tree.old tree.new)
-        (watched S.history S.faults shelf.old shelf.new) }
-    ensures calm_tree { OnOk result (T.faults tree.new ≡ T.faults tree.old) }
-    ensures calm_shelf { OnOk result (S.faults shelf.new ≡ S.faults shelf.old) }
-    ensures kept { Goes (course (S.history shelf.old) (S.images shelf.old)) (course (S.history shelf.new) (S.images shelf.new)) }
-    ensures asked { IsTrue (S.history shelf.old).told
-        → AsksChange
-        command.now
-        (watched T.history T.faults tree.old tree.new)
-        (S.history shelf.old)
-        (S.history shelf.new) }
-    ensures locked { IsLocked
-        (makes_of
-        command.now
-        (watched T.history T.faults tree.old tree.new)
-        (watched S.history S.faults shelf.old shelf.new))
         (watched T.history T.faults tree.old tree.new)
         (watched S.history S.faults shelf.old shelf.new)
         (saved_by S.history S.images shelf.old shelf.new)
         (counted S.held shelf.old shelf.new)
-        (fault_of result) }
+        result }
+    ensures unwritten { IfErr result (FailsOrUnwritten (S.history shelf.old) (S.history shelf.new)) }
+    ensures held { S.held shelf.old < S.held shelf.new → result ≡ Err a_fault.Held }
+    ensures failed { T.faults tree.old < T.faults tree.new → result ≡ Err (a_fault.Op an_op_fault.TreeFailed) }
+    ensures calm_tree { OnOk result (T.faults tree.new ≡ T.faults tree.old) }
+    ensures calm_shelf { OnOk result (S.faults shelf.new ≡ S.faults shelf.old) }
+    ensures kept { Goes (course (S.history shelf.old) (S.images shelf.old)) (course (S.history shelf.new) (S.images shelf.new)) }
 {
     match shelf.lock() {
         Err(_) => Err(ChangeFault::ShelfFailed),
