@@ -23,11 +23,11 @@ use Rattle.hg_session.proofs.Makers.{may_note_nothing, none_since, unwritten_onl
 use Rattle.hg_session.proofs.Parents.{kept_stays}
 use Rattle.hg_session.proofs.SameTables.{one_table}
 use Rattle.hg_session.specs.Call.{Count, Looked, Saved, Sink}
-use Rattle.hg_session.specs.Change.{IsSafe, IsUnwritten, NoneOurs, up_to}
+use Rattle.hg_session.specs.Change.{IsSafe, IsUnwritten, NoneOurs, up_to, IsLoadedFirst}
 use Rattle.hg_session.specs.Listed.{IsOwn, IsRightFor}
 use Rattle.hg_session.specs.Saving.{IsLockedToSave, IsNotedHeld}
 use Rattle.hg_session.specs.Ways.{KeepsBy}
-use Rattle.hg_session.specs.Status.{AreEarnedFor, ByLoadedFirst, IsFullText, IsLoadedFirst, RanStatus, SavesLast, noted_in}
+use Rattle.hg_session.specs.Status.{AreEarnedFor, ByLoadedFirst, IsFullText, RanStatus, SavesLast, noted_in}
 use Rattle.hg_shelf.specs.History as shelf
 use Rattle.hg_shelf.specs.Images.{Images, course}
 use Rattle.hg_shelf.specs.Polite.{KeepsPlain, Undisturbed, is_plain}

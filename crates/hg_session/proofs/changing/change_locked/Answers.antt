@@ -100,16 +100,16 @@ returns-in_err-lines-clause-came g c =
       come = come;
       done = tt;
       met = met_acting a m m (passes_trans a.history b.history m.history c.in_ok-loaded.ensures.passes acts.below) (goes_same m) c.in_ok-loaded.loaded c.in_ok-loaded.loaded.whole.sound
-      (loads_upto a.history b.history m.history c.in_ok-loaded.loaded acts.below.past c.in_ok-loaded.ensures.found) c.in_ok-table.ensures.0 c.in_ok-table.ensures.1
-      (come_so come) copy c.in_ok-table.table c.in_ok-table.ensures.2 (g.S.Shelf.faults c.args.shelf.now) (g.S.Shelf.faults c.read.new.shelf) (g.S.Shelf.faults c.act.new.shelf) c.in_err-lines.field-0.0
-      c.in_ok-loaded.ensures.cause.quiet (ap Some (sym same), wider.stops _ (of_op c.in_err-lines.field-0.0) (acts.stops c.in_ok-table.ensures.2.unchanged)) acts.tree_cause.rose acts.shelf_cause.rose;
+          (loads_upto a.history b.history m.history c.in_ok-loaded.loaded acts.below.past c.in_ok-loaded.ensures.found) c.in_ok-table.ensures.0 c.in_ok-table.ensures.1
+          (come_so come) copy c.in_ok-table.table c.in_ok-table.ensures.2 (g.S.Shelf.faults c.args.shelf.now) (g.S.Shelf.faults c.read.new.shelf) (g.S.Shelf.faults c.act.new.shelf) c.in_err-lines.field-0.0
+          c.in_ok-loaded.ensures.cause.quiet (ap Some (sym same), wider.stops _ (of_op c.in_err-lines.field-0.0) (acts.stops c.in_ok-table.ensures.2.unchanged)) acts.tree_cause.rose acts.shelf_cause.rose;
       safe = λ calm. inl (unwritten a.history m.history passes);
       tree = changes_by a m m (passes_trans a.history b.history m.history c.in_ok-loaded.ensures.passes acts.below) (goes_same m) c.in_ok-loaded.loaded c.in_ok-loaded.loaded.whole.sound
-      (loads_upto a.history b.history m.history c.in_ok-loaded.loaded acts.below.past c.in_ok-loaded.ensures.found) c.in_ok-table.ensures.0 c.in_ok-table.ensures.1 c.args.command.now
-      (record { old = g.T.Tree.history c.args.tree.now; new = g.T.Tree.history c.act.new.tree; before = g.T.Tree.faults c.args.tree.now; after = g.T.Tree.faults c.act.new.tree }) c.in_ok-table.table c.in_ok-table.ensures.2 acts.tree;
+          (loads_upto a.history b.history m.history c.in_ok-loaded.loaded acts.below.past c.in_ok-loaded.ensures.found) c.in_ok-table.ensures.0 c.in_ok-table.ensures.1 c.args.command.now
+          (record { old = g.T.Tree.history c.args.tree.now; new = g.T.Tree.history c.act.new.tree; before = g.T.Tree.faults c.args.tree.now; after = g.T.Tree.faults c.act.new.tree }) c.in_ok-table.table c.in_ok-table.ensures.2 acts.tree;
       asked = λ told. asks_by a m m (passes_trans a.history b.history m.history c.in_ok-loaded.ensures.passes acts.below) (goes_same m) c.in_ok-loaded.loaded c.in_ok-loaded.loaded.whole.sound
-      (loads_upto a.history b.history m.history c.in_ok-loaded.loaded acts.below.past c.in_ok-loaded.ensures.found) c.in_ok-table.ensures.0 c.in_ok-table.ensures.1
-      c.args.command.now _ c.in_ok-table.table c.in_ok-table.ensures.2 b.history acts.below.past refl c.in_ok-loaded.ensures.asked acts.asked c.in_ok-loaded.ensures.passes.past told;
+          (loads_upto a.history b.history m.history c.in_ok-loaded.loaded acts.below.past c.in_ok-loaded.ensures.found) c.in_ok-table.ensures.0 c.in_ok-table.ensures.1
+          c.args.command.now _ c.in_ok-table.table c.in_ok-table.ensures.2 b.history acts.below.past refl c.in_ok-loaded.ensures.asked acts.asked c.in_ok-loaded.ensures.passes.past told;
     })
 
 pub returns-in_err-lines-clause-unwritten : goal.returns-in_err-lines-clause-unwritten
@@ -164,17 +164,17 @@ returns-in_err-save-clause-came g c =
       come = come;
       done = tt;
       met = met_writing a m d passes c.in_err-save.ensures.kept c.in_ok-loaded.loaded c.in_ok-loaded.loaded.whole.sound loads c.in_ok-table.ensures.0 c.in_ok-table.ensures.1
-      Does c.in_ok-table.table c.act.new.mixed c.in_ok-table.ensures.2 acts.image acts.lent (refusing c.in_ok-lines.lines.items) acted copy
-      (g.S.Shelf.faults c.args.shelf.now) (g.S.Shelf.faults c.act.new.shelf) (g.S.Shelf.faults c.save.new.shelf) c.in_err-save.field-0.0 (acts.shelf_cause.quiet ∙ c.in_ok-loaded.ensures.cause.quiet) c.in_err-save.ensures.lent c.in_err-save.ensures.met;
+          Does c.in_ok-table.table c.act.new.mixed c.in_ok-table.ensures.2 acts.image acts.lent (refusing c.in_ok-lines.lines.items) acted copy
+          (g.S.Shelf.faults c.args.shelf.now) (g.S.Shelf.faults c.act.new.shelf) (g.S.Shelf.faults c.save.new.shelf) c.in_err-save.field-0.0 (acts.shelf_cause.quiet ∙ c.in_ok-loaded.ensures.cause.quiet) c.in_err-save.ensures.lent c.in_err-save.ensures.met;
       safe = λ calm. safe_by a m d passes c.in_err-save.ensures.kept c.in_ok-loaded.loaded c.in_ok-loaded.loaded.whole.sound loads c.in_ok-table.ensures.0 c.in_ok-table.ensures.1
-      Does c.in_ok-table.table c.act.new.mixed c.in_ok-table.ensures.2 acts.image acts.lent (refusing c.in_ok-lines.lines.items) acted
-      c.requires calm c.in_err-save.ensures.lent (Some (of_change c.in_err-save.field-0.0))
-      (c.in_err-save.ensures.safe (second_part a m d (goes_trans a b m c.in_ok-loaded.ensures.kept c.in_ok-lines.ensures.kept) calm));
+          Does c.in_ok-table.table c.act.new.mixed c.in_ok-table.ensures.2 acts.image acts.lent (refusing c.in_ok-lines.lines.items) acted
+          c.requires calm c.in_err-save.ensures.lent (Some (of_change c.in_err-save.field-0.0))
+          (c.in_err-save.ensures.safe (second_part a m d (goes_trans a b m c.in_ok-loaded.ensures.kept c.in_ok-lines.ensures.kept) calm));
       tree = changes_by a m d (passes_trans a.history b.history m.history c.in_ok-loaded.ensures.passes acts.below) c.in_err-save.ensures.kept c.in_ok-loaded.loaded c.in_ok-loaded.loaded.whole.sound
-      (loads_upto a.history b.history m.history c.in_ok-loaded.loaded acts.below.past c.in_ok-loaded.ensures.found) c.in_ok-table.ensures.0 c.in_ok-table.ensures.1 c.args.command.now
-      (record { old = g.T.Tree.history c.args.tree.now; new = g.T.Tree.history c.act.new.tree; before = g.T.Tree.faults c.args.tree.now; after = g.T.Tree.faults c.act.new.tree }) c.in_ok-table.table c.in_ok-table.ensures.2 acts.tree;
+          (loads_upto a.history b.history m.history c.in_ok-loaded.loaded acts.below.past c.in_ok-loaded.ensures.found) c.in_ok-table.ensures.0 c.in_ok-table.ensures.1 c.args.command.now
+          (record { old = g.T.Tree.history c.args.tree.now; new = g.T.Tree.history c.act.new.tree; before = g.T.Tree.faults c.args.tree.now; after = g.T.Tree.faults c.act.new.tree }) c.in_ok-table.table c.in_ok-table.ensures.2 acts.tree;
       asked = λ told. asks_by a m d passes c.in_err-save.ensures.kept c.in_ok-loaded.loaded c.in_ok-loaded.loaded.whole.sound loads c.in_ok-table.ensures.0 c.in_ok-table.ensures.1
-      c.args.command.now _ c.in_ok-table.table c.in_ok-table.ensures.2 b.history acts.below.past c.in_err-save.ensures.unasked.asked c.in_ok-loaded.ensures.asked acts.asked c.in_ok-loaded.ensures.passes.past told;
+          c.args.command.now _ c.in_ok-table.table c.in_ok-table.ensures.2 b.history acts.below.past c.in_err-save.ensures.unasked.asked c.in_ok-loaded.ensures.asked acts.asked c.in_ok-loaded.ensures.passes.past told;
     })
 
 pub returns-in_err-save-clause-unwritten : goal.returns-in_err-save-clause-unwritten
@@ -242,24 +242,24 @@ returns-clause-came g c =
     record {
       come = come;
       done = done_by a m d passes c.in_ok-save.ensures.kept c.in_ok-loaded.loaded c.in_ok-loaded.loaded.whole.sound loads c.in_ok-table.ensures.0 c.in_ok-table.ensures.1
-      Does c.in_ok-table.table c.act.new.mixed c.in_ok-table.ensures.2 acts.image acts.lent (refusing c.in_ok-lines.lines.items) acted
-      (g.S.Shelf.faults c.args.shelf.now) (g.S.Shelf.faults c.save.new.shelf) c.requires (acts.same c.in_ok-table.ensures.2.unchanged) c.in_ok-save.ensures.fits c.in_ok-save.ensures.lent
-      (λ none. ap (λ s. course (g.S.Shelf.history s) (g.S.Shelf.images s)) (c.in_ok-save.ensures.still none))
-      (λ calm. c.in_ok-save.ensures.recorded (second_part a m d (goes_trans a b m c.in_ok-loaded.ensures.kept c.in_ok-lines.ensures.kept) calm)
-      (λ way.
-      used_there a m d passes c.in_ok-save.ensures.kept c.in_ok-loaded.loaded c.in_ok-loaded.loaded.whole.sound loads c.in_ok-table.ensures.0 c.in_ok-table.ensures.1
-      Does c.in_ok-table.table c.act.new.mixed c.in_ok-table.ensures.2 acts.image acts.lent (refusing c.in_ok-lines.lines.items) acted
-      c.requires calm));
+          Does c.in_ok-table.table c.act.new.mixed c.in_ok-table.ensures.2 acts.image acts.lent (refusing c.in_ok-lines.lines.items) acted
+          (g.S.Shelf.faults c.args.shelf.now) (g.S.Shelf.faults c.save.new.shelf) c.requires (acts.same c.in_ok-table.ensures.2.unchanged) c.in_ok-save.ensures.fits c.in_ok-save.ensures.lent
+          (λ none. ap (λ s. course (g.S.Shelf.history s) (g.S.Shelf.images s)) (c.in_ok-save.ensures.still none))
+          (λ calm. c.in_ok-save.ensures.recorded (second_part a m d (goes_trans a b m c.in_ok-loaded.ensures.kept c.in_ok-lines.ensures.kept) calm)
+          (λ way.
+          used_there a m d passes c.in_ok-save.ensures.kept c.in_ok-loaded.loaded c.in_ok-loaded.loaded.whole.sound loads c.in_ok-table.ensures.0 c.in_ok-table.ensures.1
+          Does c.in_ok-table.table c.act.new.mixed c.in_ok-table.ensures.2 acts.image acts.lent (refusing c.in_ok-lines.lines.items) acted
+          c.requires calm));
       met = tt;
       safe = λ calm. safe_by a m d passes c.in_ok-save.ensures.kept c.in_ok-loaded.loaded c.in_ok-loaded.loaded.whole.sound loads c.in_ok-table.ensures.0 c.in_ok-table.ensures.1
-      Does c.in_ok-table.table c.act.new.mixed c.in_ok-table.ensures.2 acts.image acts.lent (refusing c.in_ok-lines.lines.items) acted
-      c.requires calm c.in_ok-save.ensures.lent None
-      (c.in_ok-save.ensures.safe (second_part a m d (goes_trans a b m c.in_ok-loaded.ensures.kept c.in_ok-lines.ensures.kept) calm));
+          Does c.in_ok-table.table c.act.new.mixed c.in_ok-table.ensures.2 acts.image acts.lent (refusing c.in_ok-lines.lines.items) acted
+          c.requires calm c.in_ok-save.ensures.lent None
+          (c.in_ok-save.ensures.safe (second_part a m d (goes_trans a b m c.in_ok-loaded.ensures.kept c.in_ok-lines.ensures.kept) calm));
       tree = changes_by a m d (passes_trans a.history b.history m.history c.in_ok-loaded.ensures.passes acts.below) c.in_ok-save.ensures.kept c.in_ok-loaded.loaded c.in_ok-loaded.loaded.whole.sound
-      (loads_upto a.history b.history m.history c.in_ok-loaded.loaded acts.below.past c.in_ok-loaded.ensures.found) c.in_ok-table.ensures.0 c.in_ok-table.ensures.1 c.args.command.now
-      (record { old = g.T.Tree.history c.args.tree.now; new = g.T.Tree.history c.act.new.tree; before = g.T.Tree.faults c.args.tree.now; after = g.T.Tree.faults c.act.new.tree }) c.in_ok-table.table c.in_ok-table.ensures.2 acts.tree;
+          (loads_upto a.history b.history m.history c.in_ok-loaded.loaded acts.below.past c.in_ok-loaded.ensures.found) c.in_ok-table.ensures.0 c.in_ok-table.ensures.1 c.args.command.now
+          (record { old = g.T.Tree.history c.args.tree.now; new = g.T.Tree.history c.act.new.tree; before = g.T.Tree.faults c.args.tree.now; after = g.T.Tree.faults c.act.new.tree }) c.in_ok-table.table c.in_ok-table.ensures.2 acts.tree;
       asked = λ told. asks_by a m d passes c.in_ok-save.ensures.kept c.in_ok-loaded.loaded c.in_ok-loaded.loaded.whole.sound loads c.in_ok-table.ensures.0 c.in_ok-table.ensures.1
-      c.args.command.now _ c.in_ok-table.table c.in_ok-table.ensures.2 b.history acts.below.past c.in_ok-save.ensures.unasked.asked c.in_ok-loaded.ensures.asked acts.asked c.in_ok-loaded.ensures.passes.past told;
+          c.args.command.now _ c.in_ok-table.table c.in_ok-table.ensures.2 b.history acts.below.past c.in_ok-save.ensures.unasked.asked c.in_ok-loaded.ensures.asked acts.asked c.in_ok-loaded.ensures.passes.past told;
     }
 
 pub returns-clause-kept : goal.returns-clause-kept

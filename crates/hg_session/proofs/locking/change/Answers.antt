@@ -79,22 +79,22 @@ returns-in-Ok-true-clause-came g c =
           come_wide a b x d c.lock.ensures.waits c.unlock-freed.ensures.waits c.lock.ensures.kept c.change_locked-done.ensures.kept c.unlock-freed.ensures.kept taken c.change_locked-done.ensures.lock
           (makes_of c.args.command.now copy part) Whole wide copy (g.S.Shelf.faults c.lock.new.self) (g.S.Shelf.faults c.change_locked-done.new.shelf) (g.S.Shelf.faults c.args.shelf.now) (g.S.Shelf.faults c.unlock-freed.new.self) came.come;
       done = once_done a b x d c.lock.ensures.waits c.unlock-freed.ensures.waits c.lock.ensures.kept c.change_locked-done.ensures.kept c.unlock-freed.ensures.kept noted c.change_locked-done.ensures.uncalled taken c.change_locked-done.ensures.lock
-      (come_so came.come) (only_so Whole came.come.read came.come.work) (so_wide (makes_of c.args.command.now copy part) Whole wide came.come.read came.come.work) copy (g.S.Shelf.faults c.args.shelf.now) (g.S.Shelf.faults c.lock.new.self) (g.S.Shelf.faults c.change_locked-done.new.shelf) (g.S.Shelf.faults c.unlock-freed.new.self)
-      c.change_locked-done.result c.unlock-freed.result came.done;
+          (come_so came.come) (only_so Whole came.come.read came.come.work) (so_wide (makes_of c.args.command.now copy part) Whole wide came.come.read came.come.work) copy (g.S.Shelf.faults c.args.shelf.now) (g.S.Shelf.faults c.lock.new.self) (g.S.Shelf.faults c.change_locked-done.new.shelf) (g.S.Shelf.faults c.unlock-freed.new.self)
+          c.change_locked-done.result c.unlock-freed.result came.done;
       met = once_met a b x d c.lock.ensures.waits c.unlock-freed.ensures.waits c.lock.ensures.kept c.change_locked-done.ensures.kept c.unlock-freed.ensures.kept noted c.change_locked-done.ensures.uncalled taken c.change_locked-done.ensures.lock
-      (come_so came.come) (only_so Whole came.come.read came.come.work) (so_wide (makes_of c.args.command.now copy part) Whole wide came.come.read came.come.work) copy (g.S.Shelf.faults c.args.shelf.now) (g.S.Shelf.faults c.lock.new.self) (g.S.Shelf.faults c.change_locked-done.new.shelf) (g.S.Shelf.faults c.unlock-freed.new.self)
-      _ c.change_locked-done.result c.unlock-freed.result c.in-Ok-true.ensures.cause.quiet c.change_locked-done.ensures.later came.done came.met c.unlock-freed.ensures.cause;
+          (come_so came.come) (only_so Whole came.come.read came.come.work) (so_wide (makes_of c.args.command.now copy part) Whole wide came.come.read came.come.work) copy (g.S.Shelf.faults c.args.shelf.now) (g.S.Shelf.faults c.lock.new.self) (g.S.Shelf.faults c.change_locked-done.new.shelf) (g.S.Shelf.faults c.unlock-freed.new.self)
+          _ c.change_locked-done.result c.unlock-freed.result c.in-Ok-true.ensures.cause.quiet c.change_locked-done.ensures.later came.done came.met c.unlock-freed.ensures.cause;
       safe = λ calm. once_safe a b x d c.lock.ensures.waits c.unlock-freed.ensures.waits c.lock.ensures.kept c.change_locked-done.ensures.kept c.unlock-freed.ensures.kept noted c.change_locked-done.ensures.uncalled taken c.change_locked-done.ensures.lock
-      (come_so came.come) (only_so Whole came.come.read came.come.work) (so_wide (makes_of c.args.command.now copy part) Whole wide came.come.read came.come.work) copy (g.S.Shelf.faults c.args.shelf.now) (g.S.Shelf.faults c.lock.new.self) (g.S.Shelf.faults c.change_locked-done.new.shelf) (g.S.Shelf.faults c.unlock-freed.new.self)
-      c.change_locked-done.result c.unlock-freed.result came.safe calm;
+          (come_so came.come) (only_so Whole came.come.read came.come.work) (so_wide (makes_of c.args.command.now copy part) Whole wide came.come.read came.come.work) copy (g.S.Shelf.faults c.args.shelf.now) (g.S.Shelf.faults c.lock.new.self) (g.S.Shelf.faults c.change_locked-done.new.shelf) (g.S.Shelf.faults c.unlock-freed.new.self)
+          c.change_locked-done.result c.unlock-freed.result came.safe calm;
       locked = once_locked a b x d c.lock.ensures.waits c.unlock-freed.ensures.waits c.lock.ensures.kept c.change_locked-done.ensures.kept c.unlock-freed.ensures.kept noted c.change_locked-done.ensures.uncalled taken c.change_locked-done.ensures.lock
-      (come_so came.come) (only_so Whole came.come.read came.come.work) (so_wide (makes_of c.args.command.now copy part) Whole wide came.come.read came.come.work) copy (g.S.Shelf.faults c.args.shelf.now) (g.S.Shelf.faults c.lock.new.self) (g.S.Shelf.faults c.change_locked-done.new.shelf) (g.S.Shelf.faults c.unlock-freed.new.self)
-      (record { before = g.S.Shelf.held c.args.shelf.now; after = g.S.Shelf.held c.unlock-freed.new.self }) c.change_locked-done.result c.unlock-freed.result c.in-Ok-true.ensures.cause.quiet c.change_locked-done.ensures.later
-      (c.unlock-freed.ensures.held ∙ c.change_locked-done.ensures.locks ∙ counted)
-      came.done came.met c.unlock-freed.ensures.cause c.unlock-freed.ensures.unlocks c.unlock-freed.ensures.noted;
+          (come_so came.come) (only_so Whole came.come.read came.come.work) (so_wide (makes_of c.args.command.now copy part) Whole wide came.come.read came.come.work) copy (g.S.Shelf.faults c.args.shelf.now) (g.S.Shelf.faults c.lock.new.self) (g.S.Shelf.faults c.change_locked-done.new.shelf) (g.S.Shelf.faults c.unlock-freed.new.self)
+          (record { before = g.S.Shelf.held c.args.shelf.now; after = g.S.Shelf.held c.unlock-freed.new.self }) c.change_locked-done.result c.unlock-freed.result c.in-Ok-true.ensures.cause.quiet c.change_locked-done.ensures.later
+          (c.unlock-freed.ensures.held ∙ c.change_locked-done.ensures.locks ∙ counted)
+          came.done came.met c.unlock-freed.ensures.cause c.unlock-freed.ensures.unlocks c.unlock-freed.ensures.noted;
       tree = came.tree;
       asked = λ told. asks_whole a b x d c.lock.ensures.waits c.unlock-freed.ensures.waits c.lock.ensures.kept c.change_locked-done.ensures.kept c.unlock-freed.ensures.kept taken c.change_locked-done.ensures.lock
-      c.args.command.now _ came.come.read c.lock.ensures.unasked c.unlock-freed.ensures.unasked (came.asked (c.lock.ensures.kept.past.told ∙ told));
+          c.args.command.now _ came.come.read c.lock.ensures.unasked c.unlock-freed.ensures.unasked (came.asked (c.lock.ensures.kept.past.told ∙ told));
     })
 
 pub returns-in-Ok-false-clause-unwritten : goal.returns-in-Ok-false-clause-unwritten
@@ -125,4 +125,3 @@ returns-in-Ok-true-clause-kept g c =
     (course (g.S.Shelf.history c.unlock-freed.new.self) (g.S.Shelf.images c.unlock-freed.new.self)) c.lock.ensures.kept
     (goes_trans (course (g.S.Shelf.history c.lock.new.self) (g.S.Shelf.images c.lock.new.self)) (course (g.S.Shelf.history c.change_locked-done.new.shelf) (g.S.Shelf.images c.change_locked-done.new.shelf))
     (course (g.S.Shelf.history c.unlock-freed.new.self) (g.S.Shelf.images c.unlock-freed.new.self)) c.change_locked-done.ensures.kept c.unlock-freed.ensures.kept)
-
