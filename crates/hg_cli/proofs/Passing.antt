@@ -19,10 +19,11 @@ use Rattle.hg_save.specs.Record.{data_name, reading}
 use Rattle.hg_save.specs.Saved.{new_docket}
 use Rattle.hg_save.proofs.Spans.{keep_used}
 use Rattle.hg_session.proofs.Longer.{right_by_start, rows_stay}
+use Rattle.hg_session.proofs.Makers.{may_note_nothing, none_since, unwritten_only}
 use Rattle.hg_session.proofs.Parents.{kept_stays}
 use Rattle.hg_session.proofs.SameTables.{one_table}
 use Rattle.hg_session.specs.Call.{Count, Looked, Saved, Sink}
-use Rattle.hg_session.specs.Change.{IsSafe, up_to}
+use Rattle.hg_session.specs.Change.{IsSafe, IsUnwritten, NoneOurs, up_to}
 use Rattle.hg_session.specs.Listed.{IsOwn, IsRightFor}
 use Rattle.hg_session.specs.Saving.{IsLockedToSave, IsNotedHeld}
 use Rattle.hg_session.specs.Ways.{KeepsBy}
@@ -108,22 +109,24 @@ module _ (dirs : ℕ) (looked : Looked) (before after : ℕ → Images) (locks :
 
     -- the plain store stays
     plain_by : (t : Table) → IsSafe (noted_in looked.shelf (Some t) notes) saved None → KeepsPlain looked.shelf.new start
-    plain_by t (inl unwritten) =
+    plain_by t (inl only) =
         let later : start ≤ end = past.later in
+        let unwritten : IsUnwritten looked.shelf.old looked.shelf.new = unwritten_only (noted_in looked.shelf (Some t) notes).may (may_note_nothing looked.shelf (Some t) notes) saved only in
         plain_unwritten looked.shelf.old looked.shelf.new past shelf_told shelf_ours (none_late looked.shelf.new shelf_ours start end (omega arith) unwritten.none)
     plain_by t (inr both) =
         let published = both.1 in
-        let order : published.stretch.from ≤ published.stretch.to = published.stretch.order in
+        let order : published.since ≤ published.stretch.to = published.upto in
         let upto_end : published.stretch.to ≤ end = published.stretch.end in
-        let from_start : start ≤ published.stretch.from = published.stretch.start in
-        let front : published.stretch.from ≤ start = none_late looked.shelf.new shelf_ours start published.stretch.from (omega (arith, order, upto_end)) published.stretch.before in
+        let from_start : start ≤ published.since = omega (arith, published.stretch.start, published.from) in
+        let none : NoneOurs looked.shelf.new start published.since = none_since (noted_in looked.shelf (Some t) notes) (may_note_nothing looked.shelf (Some t) notes) saved published in
+        let front : published.since ≤ start = none_late looked.shelf.new shelf_ours start published.since (omega (arith, order, upto_end)) none in
         let back : end ≤ published.stretch.to = none_late looked.shelf.new shelf_ours published.stretch.to end (omega arith) published.stretch.behind in
         record {
           told = past.told ∙ shelf_told;
           each = λ name plain k from upto.
               let kept = published.is.others k (omega (arith, front, from)) (omega (arith, back, upto)) in
-              let first : published.stretch.from ≡ start = omega (arith, front, from_start) in
-              plain_kept (plan_of published.is.held) published.is.held.docket (looked.shelf.new.at published.stretch.from).files (looked.shelf.new.at k).files kept name plain
+              let first : published.since ≡ start = omega (arith, front, from_start) in
+              plain_kept (plan_of published.is.held) published.is.held.docket (looked.shelf.new.at published.since).files (looked.shelf.new.at k).files kept name plain
               ∙ ap (λ (j : ℕ). (looked.shelf.new.at j).files name) first;
         }
 

@@ -8,7 +8,7 @@ use Rattle.hg_shelf.specs.Images.{Course, Goes, last_scene, scene}
 use Rattle.hg_shelf.specs.Polite.{Undisturbed}
 use Rattle.hg_shelf.specs.Rules.{Perhaps, TornAt, content, moved, overwritten}
 use Rattle.hg_shelf.proofs.Scenes.{first_part, goes_trans, second_part}
-use Rattle.hg_save.specs.Leads.{Clears, IsDone, IsSure, IsWhole, Leads, OnceBy, OwnSteps, StepBy}
+use Rattle.hg_save.specs.Leads.{Clears, IsDone, IsSure, IsWhole, Leads, OnceBy, OwnSteps, ShowsEither, StepBy}
 use Rattle.hg_save.specs.Others.{IsOrderly}
 use Rattle.hg_save.specs.Over.{IsPut}
 use Rattle.hg_save.specs.Record.{IsReadable, data_name, id_in}
@@ -20,6 +20,7 @@ use Rattle.hg_save.proofs.Keeping.{Keeping, keep_cleared, keep_data_file, keep_d
 use Rattle.hg_save.proofs.Orderly.{clear_steps, data_steps, docket_steps, orderly_along, orderly_keeps, set_at, swap_steps}
 use Rattle.hg_save.proofs.Own.{steps_on}
 use Rattle.hg_save.proofs.Readings.{HasPlace}
+use Rattle.hg_save.proofs.Turning.{Turned, turned_four, turned_one, turned_three, turned_two}
 use Rattle.hg_save.proofs.Stages.{IsWritten, exact_done, holds_exactly, is_written, prepares_one, prepares_two}
 
 -- ---- what the parts say
@@ -28,12 +29,14 @@ use Rattle.hg_save.proofs.Stages.{IsWritten, exact_done, holds_exactly, is_writt
 pub record Puts (name : List ℕ) (place : ℕ) (bytes : List ℕ) (a b : Course) : Type 0 where
   pub goes : Goes a b
   pub leads : Undisturbed a b → Leads (TornAt name place (length bytes)) a b
+  pub either : Undisturbed a b → ShowsEither a b
   pub steps : Undisturbed a b → OwnSteps (StepBy (TornAt name place (length bytes))) a b
 
 -- the docket takes its place, or not
 pub record Swaps (c d : Course) : Type 0 where
   pub goes : Goes c d
   pub leads : Undisturbed c d → IsSome ((last_scene c).files new_docket) → Leads (Perhaps (moved new_docket (codes "dirstate"))) c d
+  pub either : Undisturbed c d → ShowsEither c d
   pub whole : Undisturbed c d → IsSome ((last_scene c).files new_docket) → IsWhole (moved new_docket (codes "dirstate")) c d
   pub steps : Undisturbed c d → IsSome ((last_scene c).files new_docket) → OwnSteps (OnceBy (last_scene c) (moved new_docket (codes "dirstate"))) c d
 
@@ -41,6 +44,7 @@ pub record Swaps (c d : Course) : Type 0 where
 pub record Ceases (id next : List ℕ) (d z : Course) : Type 0 where
   pub goes : Goes d z
   pub leads : Undisturbed d z → Leads (Clears id next) d z
+  pub either : Undisturbed d z → ShowsEither d z
   pub steps : Undisturbed d z → OwnSteps (StepBy (Clears id next)) d z
 
 -- ---- what they have led to
@@ -51,6 +55,7 @@ IsLast id a = (d : Files) → (last_scene a).leaves d → (n : ℕ) → name_aft
 
 pub record Ended (loaded nodes : List ℕ) (new : Encoded) (a z : Course) : Type 0 where
   pub led : Led loaded new a z
+  pub turned : Turned new a z
   pub keeping : Stands loaded (last_scene a) → HasPlace nodes new (last_scene a).files → OwnSteps Keeping a z
   pub orderly : IsFree new (last_scene a) → IsLast new.id a → HasPlace nodes new (last_scene a).files → IsReadable (published nodes new) → OwnSteps IsOrderly a z
 
@@ -61,6 +66,7 @@ module _ (loaded nodes : List ℕ) (new : Encoded) (over : IsOver loaded nodes n
       let prepares = prepares_one new a b one.goes (one.leads calm) in
       record {
         led = led_before loaded new a b one.goes.past.later prepares;
+        turned = turned_one new a b (one.leads calm) (one.either calm);
         keeping = λ stands front. keep_data_file loaded nodes new over a stands front b prepares (one.steps calm);
         orderly = λ free none front sound. data_steps loaded nodes new over a front free b prepares (one.steps calm);
       }
@@ -77,6 +83,7 @@ module _ (loaded nodes : List ℕ) (new : Encoded) (over : IsOver loaded nodes n
         let before = ended_one first in
         record {
           led = led_before loaded new a c start.past.later (prepares_two new a b one.goes c two.goes (one.leads first) (two.leads second));
+          turned = turned_two new a b c one.goes two.goes (one.leads first) (two.leads second) (before.turned) (two.either second);
           keeping = λ stands front. steps_on Keeping a b c keeping_along (before.keeping stands front) two.goes (keep_docket (length new.docket.items) b c (two.steps second));
           orderly = λ free none front sound. steps_on IsOrderly a b c orderly_along (before.orderly free none front sound) two.goes (docket_steps (length new.docket.items) b c (two.steps second));
         }
@@ -100,6 +107,7 @@ module _ (loaded nodes : List ℕ) (new : Encoded) (over : IsOver loaded nodes n
             let told : IsTrue d.history.told = three.goes.past.told ∙ start.past.told ∙ calm.told in
             record {
               led = led_behind loaded nodes new over a c d start three.goes wrote (three.leads second wrote.there) (three.whole second wrote.there);
+              turned = turned_three new a c d start three.goes wrote (three.leads second wrote.there) before.turned (three.either second);
               keeping = λ stands front. steps_on Keeping a c d keeping_along (before.keeping stands front) three.goes (keep_moved loaded nodes new over a stands front c d start wrote (three.steps second wrote.there));
               orderly = λ free none front sound.
                   steps_on IsOrderly a c d orderly_along (before.orderly free none front sound) three.goes
@@ -125,6 +133,9 @@ module _ (loaded nodes : List ℕ) (new : Encoded) (over : IsOver loaded nodes n
               let exact = exact_at first in
               record {
                 led = led_cleared loaded nodes new over a d z front_goes four.goes before.led exact (four.leads second);
+                turned =
+                    let wrote = written (first_part a c d three.goes first) in
+                    turned_four new a c d start three.goes wrote (three.leads (second_part a c d start first) wrote.there) (docket_of loaded).id z four.goes front_goes (four.leads second) before.turned (four.either second);
                 keeping = λ stands front. steps_on Keeping a d z keeping_along (before.keeping stands front) four.goes (keep_cleared loaded nodes new over (last_scene a).files d z exact.shown (four.leads second) (four.steps second));
                 orderly = λ free none front sound.
                     steps_on IsOrderly a d z orderly_along (before.orderly free none front sound) four.goes (clear_steps loaded nodes new over a front d z exact.left (four.leads second) (four.steps second));
@@ -147,6 +158,7 @@ module _ (loaded : Loaded) (new : Encoded) (over : IsOver loaded.shown.items loa
         crash = λ free has. crash_by docket nodes new over a z led free (has_place loaded new over (last_scene a) has);
         shown = λ free has. shown_by docket nodes new over a z led free (has_place loaded new over (last_scene a) has);
         torn = torn_by docket nodes new over a z led;
+        once = ended.turned;
         named = names_by docket nodes new over a z led there;
         anew = anew_by docket nodes new over a z led;
         behind = behind_by docket nodes new over a z led;

@@ -19,3 +19,4 @@ pub mod Spans
 pub mod Stages
 pub mod Tables
 pub mod Tails
+pub mod Turning

@@ -124,7 +124,7 @@ module _ (new : Encoded) where
   prepared loaded start x y is = record { others = λ at docket beside nodes. inl (is.others at docket beside nodes); only = record { file = is.file; stage = inl is.unplaced } }
 
   -- a rename changes nothing else
-  moved_at : (y z : Files) → Surely (moved new_docket (codes "dirstate")) y z → (at : List ℕ) → (at ≡ codes "dirstate" → ⊥) → (at ≡ new_docket → ⊥) → z at ≡ y at
+  pub moved_at : (y z : Files) → Surely (moved new_docket (codes "dirstate")) y z → (at : List ℕ) → (at ≡ codes "dirstate" → ⊥) → (at ≡ new_docket → ⊥) → z at ≡ y at
   moved_at y z moves at docket beside =
       moves at
       ∙ ap (λ (t : Bool). cond t (y new_docket) (cond (bytes_eq new_docket at) None (y at))) (others_apart (codes "dirstate") at (λ is. docket (sym is)))

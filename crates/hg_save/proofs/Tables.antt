@@ -117,6 +117,7 @@ module _ (held : Held) (loaded : Loaded) (new : Encoded) (found : Table) (made :
         crash = λ ground. let base = base_by s ground in subst (LeavesOnly a z) published_is (put.crash base.free base.nodes);
         shown = λ stands latest has. subst (ShowsOnly a z) published_is (put.shown (stands_free loaded new made.over s stands (nodes_by s has)) (nodes_by s has));
         torn = put.torn;
+        once = put.once;
         latest = put.latest;
         intact = λ stands latest solid. put.intact held.docket.id (λ c is named. solid.front c is (named ∙ same_id ∙ sym (ap (λ (bytes : List ℕ). (docket_of bytes).id) stands)));
         intact_new = λ stands latest solid. put.intact new.id (λ c is named. ((solid_free loaded new made.over s stands latest (λ some. solid)).each c is named).1);

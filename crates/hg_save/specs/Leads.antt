@@ -39,6 +39,10 @@ pub record IsStill (old new : Course) : Type 0 where
 abbrev pub IsWhole : (Files → Files) → Course → Course → Type 0
 IsWhole change old new = Surely change (last_scene old).files (last_scene new).files ⊎ IsStill old new
 
+-- at each moment of a call reads show what they showed at its start, or what they show at its end
+pub record ShowsEither (old new : Course) : Type 0 where
+  pub each : (k : ℕ) → old.history.last ≤ k → k ≤ new.history.last → ((scene new k).files ≡ (last_scene old).files) ⊎ ((scene new k).files ≡ (last_scene new).files)
+
 -- ---- single steps
 
 -- the lock is held all along: each step is the caller's own, or of one who may only read

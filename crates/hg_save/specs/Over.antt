@@ -1,5 +1,5 @@
 -- What publishing a changed table by the better way leaves of the dirstate, at each moment and after a crash.
-use Rattle.std.specs.Prelude.{ℕ, ◌≡◌, ◌<◌, true, List, [], Option, Some, None, Result, Ok, Err}
+use Rattle.std.specs.Prelude.{ℕ, ◌≡◌, ◌<◌, ◌≤◌, true, List, [], Option, Some, None, Result, Ok, Err}
 use Rattle.hg_append.specs.Encoded.{IsWritten}
 use Rattle.hg_append.specs.declared.encoding.Encoded.{Encoded}
 use Rattle.hg_append.specs.declared.way.Way.{Way}
@@ -21,11 +21,11 @@ use Rattle.hg_save.specs.declared.publish_fault.PublishFault.TheVariants as a_fa
 use Rattle.hg_save.specs.Leads.{Leads}
 use Rattle.hg_save.specs.Others.{HasData, KeepsRecords, nodes_in}
 use Rattle.hg_save.specs.Record.{IsReadable, data_name, shown_in, id_in}
-use Rattle.hg_save.specs.Saved.{HoldsExactly, IsLatest, IsUnnamed, KeepsOthers, LeavesOnly, NamesExactly, Records, ShowsOnly, Stands, WritesOnly, published}
+use Rattle.hg_save.specs.Saved.{HoldsExactly, IsLatest, IsUnnamed, KeepsOthers, LeavesOnly, NamesExactly, Records, ShowsOnly, Stands, TurnsOnce, WritesOnly, published}
 use Rattle.hg_save.specs.declared.loaded.Loaded.{Loaded}
 use Rattle.hg_save.specs.Behind.{HasNodes, IsBase, IsFree, IsFreeIn, IsSolid, KeepsUsed, KeepsUsedBytes, LeavesData}
 use Rattle.hg_shelf.specs.History.{Files, us}
-use Rattle.hg_shelf.specs.Images.{Course, Scene, last_scene}
+use Rattle.hg_shelf.specs.Images.{Course, Scene, last_scene, scene}
 use Rattle.hg_shelf.specs.Rules.{content}
 
 -- ---- what a table is published upon
@@ -67,13 +67,14 @@ KeepsOthersBy a_way.Rewrite held old new = (id : List ℕ) × (next_name held.do
 KeepsOthersBy a_way.Append held old new = Leads (KeepsUsedBytes held.docket.id held.docket.used) old new
 
 -- what was encoded was published over the record that was loaded, wholly or in part. At each moment reads show that record or the new one, and a crash leaves
--- what it might have left or the new one; what is written is written at its place and past the old end, and where the docket names a new identifier all is
--- exact; no other file is changed; no docket that a crash may leave is ahead of the one that stands, if none was; whatever a crash may leave that names an
+-- what it might have left or the new one; what is written is written at its place and past the old end, and no file shows other bytes on its way than those
+-- of the start and of the end; where the docket names a new identifier all is exact; no other file is changed; no docket that a crash may leave is ahead of the one that stands, if none was; whatever a crash may leave that names an
 -- identifier has the data, if what it might have left at the start has, and it is solid, if it was; and each step keeps to what is asked of others
 pub record IsPut (loaded : Loaded) (new : Encoded) (old now : Course) : Type 0 where
   pub crash : IsFree new (last_scene old) → (0 < new.place → HasNodes loaded (last_scene old)) → LeavesOnly old now (published loaded.nodes.items new)
   pub shown : IsFreeIn new (last_scene old).files → (0 < new.place → HasNodes loaded (last_scene old)) → ShowsOnly old now (published loaded.nodes.items new)
   pub torn : Leads (WritesOnly new (last_scene old).files) old now
+  pub once : (k : ℕ) → old.history.last ≤ k → k ≤ now.history.last → TurnsOnce new (last_scene old).files (scene now k).files (last_scene now).files
   pub named : IsUnnamed new.id (last_scene old) → NamesExactly new old now
   pub anew : new.place ≡ 0 → Leads (KeepsOthers (docket_of loaded.shown.items).id new.id) old now
   pub behind : 0 < new.place → Leads (KeepsUsedBytes new.id new.place) old now
@@ -84,7 +85,7 @@ pub record IsPut (loaded : Loaded) (new : Encoded) (old now : Course) : Type 0 w
   pub keeping : Stands loaded.shown.items (last_scene old) → (0 < new.place → HasNodes loaded (last_scene old)) → KeepsUsed us now.history old.history.last
 
 -- a table was put over the record that was loaded, wholly or in part: at each moment reads show that record or the table, and a crash leaves what it might
--- have left or the table; what is written is written at its place and past the old end; what a crash may leave of the docket that stood or of the new one has
+-- have left or the table; what is written is written at its place and past the old end, and no file shows other bytes on its way; what a crash may leave of the docket that stood or of the new one has
 -- the data file that it names, and in the end it is solid and names no later identifier, so that the next table may be published by either way; and each step
 -- keeps to what is asked of others
 pub record IsPutOver (held : Held) (loaded : Loaded) (old new : Course) : Type 0 where
@@ -95,6 +96,7 @@ pub record IsPutOver (held : Held) (loaded : Loaded) (old new : Course) : Type 0
   pub shown : Stands loaded.shown.items (last_scene old) → (plan_of held ≡ a_way.Rewrite → IsLatest (last_scene old)) → (plan_of held ≡ a_way.Append → HasUsed loaded (last_scene old))
       → ShowsOnly old new (Some (Ok found))
   pub torn : Leads (WritesOnly encoded (last_scene old).files) old new
+  pub once : (k : ℕ) → old.history.last ≤ k → k ≤ new.history.last → TurnsOnce encoded (last_scene old).files (scene new k).files (last_scene new).files
   pub latest : Stands loaded.shown.items (last_scene old) → IsLatest (last_scene old) → IsLatest (last_scene new)
   pub intact : Stands loaded.shown.items (last_scene old) → IsLatest (last_scene old) → IsSolid (last_scene old) → LeavesData held.docket.id old new
   pub intact_new : Stands loaded.shown.items (last_scene old) → IsLatest (last_scene old) → IsSolid (last_scene old) → LeavesData encoded.id old new

@@ -104,6 +104,17 @@ pub record WritesOnly (new : Encoded) (start old now : Files) : Type 0 where
   pub file : TornFile new.place (length new.bytes.items) (old (data_name new.id)) (now (data_name new.id))
   pub stage : IsUnplaced new.docket.items old now ⊎ IsExact new start now
 
+-- the new docket was written whole beside the old one, where nothing stands any more at the end
+pub record IsPassing (new : Encoded) (start now end : Files) : Type 0 where
+  pub written : now new_docket ≡ Some (overwritten (content (start new_docket)) 0 new.docket.items)
+  pub placed : end new_docket ≡ None
+
+-- of files at the start, at a moment, and at the end of a publication: each is as it was, or as it is at the end; so is the one beside the docket, or it
+-- is on its way
+pub record TurnsOnce (new : Encoded) (start now end : Files) : Type 0 where
+  pub each : (at : List ℕ) → (at ≡ new_docket → ⊥) → (now at ≡ start at) ⊎ (now at ≡ end at)
+  pub beside : (now new_docket ≡ start new_docket) ⊎ ((now new_docket ≡ end new_docket) ⊎ IsPassing new start now end)
+
 -- at each moment of a call, wherever the docket names the new identifier, reads show exactly what is published over what they showed at the start,
 -- and so does whatever a crash leaves
 pub record NamesExactly (encoded : Encoded) (old new : Course) : Type 0 where

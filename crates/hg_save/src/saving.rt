@@ -7,7 +7,7 @@ ghost use Rattle.hg_shelf.specs.Asks.{AsksNothing};
 ghost use Rattle.hg_shelf.specs.Images.{Goes, course, last_scene};
 ghost use Rattle.hg_shelf.specs.Polite.{Undisturbed};
 ghost use Rattle.hg_save.specs.Behind.{HasNodes};
-ghost use Rattle.hg_save.specs.Leads.{Clears, IsHeld, Leads, OwnSteps, StepBy};
+ghost use Rattle.hg_save.specs.Leads.{Clears, IsHeld, Leads, OwnSteps, ShowsEither, StepBy};
 ghost use Rattle.hg_save.specs.Over.{IsPut};
 ghost use Rattle.hg_save.specs.Record.{data_name};
 ghost use Rattle.hg_save.specs.Saved.{HoldsExactly, IsOver, Records, published};
@@ -46,6 +46,9 @@ fn clear<S: Shelf>(shelf: &mut S, docket: &[u8], next: &[u8]) -> Result<(), Fail
         (StepBy (Clears (docket_of docket.now).id next.now))
         (course (S.history shelf.old) (S.images shelf.old))
         (course (S.history shelf.new) (S.images shelf.new)) }
+    // At each moment reads show what they showed at the start, or what they show at the end.
+    ensures either { Undisturbed (course (S.history shelf.old) (S.images shelf.old)) (course (S.history shelf.new) (S.images shelf.new))
+        → ShowsEither (course (S.history shelf.old) (S.images shelf.old)) (course (S.history shelf.new) (S.images shelf.new)) }
     ensures lock { IsTrue (S.history shelf.old).told → IsHeld (S.history shelf.old) (S.history shelf.new) }
     ensures kept { Goes (course (S.history shelf.old) (S.images shelf.old)) (course (S.history shelf.new) (S.images shelf.new)) }
     ensures ours { (S.history shelf.new).ours ≡ (S.history shelf.old).ours }

@@ -7,7 +7,7 @@ ghost use Rattle.hg_shelf.specs.Asks.{AsksNothing};
 ghost use Rattle.hg_shelf.specs.Images.{Goes, course, last_scene};
 ghost use Rattle.hg_shelf.specs.Polite.{Undisturbed};
 ghost use Rattle.hg_shelf.specs.Rules.{Perhaps, TornAt, content, moved, overwritten, without};
-ghost use Rattle.hg_save.specs.Leads.{IsDone, IsHeld, IsSure, IsWhole, Leads, OnceBy, OwnSteps, StepBy};
+ghost use Rattle.hg_save.specs.Leads.{IsDone, IsHeld, IsSure, IsWhole, Leads, OnceBy, OwnSteps, ShowsEither, StepBy};
 ghost use Rattle.hg_save.specs.Record.{data_name};
 
 use hg_base::Failed;
@@ -35,6 +35,9 @@ pub fn put<S: Shelf>(shelf: &mut S, name: &str, place: u64, bytes: &[u8]) -> Res
         (StepBy (TornAt name.now place (length bytes.now)))
         (course (S.history shelf.old) (S.images shelf.old))
         (course (S.history shelf.new) (S.images shelf.new)) }
+    // At each moment reads show what they showed at the start, or what they show at the end.
+    ensures either { Undisturbed (course (S.history shelf.old) (S.images shelf.old)) (course (S.history shelf.new) (S.images shelf.new))
+        → ShowsEither (course (S.history shelf.old) (S.images shelf.old)) (course (S.history shelf.new) (S.images shelf.new)) }
     ensures lock { IsTrue (S.history shelf.old).told → IsHeld (S.history shelf.old) (S.history shelf.new) }
     ensures kept { Goes (course (S.history shelf.old) (S.images shelf.old)) (course (S.history shelf.new) (S.images shelf.new)) }
     ensures ours { (S.history shelf.new).ours ≡ (S.history shelf.old).ours }
@@ -68,6 +71,9 @@ pub fn swap<S: Shelf>(shelf: &mut S, from: &str, to: &str) -> Result<(), Failed>
         (OnceBy (last_scene (course (S.history shelf.old) (S.images shelf.old))) (moved from.now to.now))
         (course (S.history shelf.old) (S.images shelf.old))
         (course (S.history shelf.new) (S.images shelf.new)) }
+    // At each moment reads show what they showed at the start, or what they show at the end.
+    ensures either { Undisturbed (course (S.history shelf.old) (S.images shelf.old)) (course (S.history shelf.new) (S.images shelf.new))
+        → ShowsEither (course (S.history shelf.old) (S.images shelf.old)) (course (S.history shelf.new) (S.images shelf.new)) }
     ensures lock { IsTrue (S.history shelf.old).told → IsHeld (S.history shelf.old) (S.history shelf.new) }
     ensures kept { Goes (course (S.history shelf.old) (S.images shelf.old)) (course (S.history shelf.new) (S.images shelf.new)) }
     ensures ours { (S.history shelf.new).ours ≡ (S.history shelf.old).ours }

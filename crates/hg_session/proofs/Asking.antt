@@ -1,5 +1,6 @@
 -- What is asked for below `.hg` while a record is read, in a longer call too.
-use Rattle.std.proofs.Common.{◌≡◌, List, ◌∷◌, ◌++◌, length, take, Result, Ok, Err, inl, refl, sym, ap, ◌∙◌, arith}
+use Rattle.hg_entry.specs.Table.{Table}
+use Rattle.std.proofs.Common.{◌≡◌, List, ◌∷◌, ◌++◌, length, take, Result, Ok, Err, inl, refl, sym, ap, ◌∙◌, arith, Option}
 use Rattle.std.proofs.Math.Seq.{take-length}
 use Rattle.std.proofs.lemmas.List.{append-nil}
 use Rattle.hg_save.specs.Asked.{AsksAsOf, docket_ask, named_asks}
@@ -68,8 +69,8 @@ asks_wide a b c d first before last behind is =
 -- ---- a command that changes the record
 
 -- nothing was asked for but the record
-pub asks_read : (command : Command) (copy : Watched tree.History) (old new : History) → AsksRecord old new → AsksChange command copy old new
-asks_read command copy old new load = record { mid = new; end = new; past = extends_same new; later = extends_same new; quiet = refl; load = load; behind = inl refl }
+pub asks_read : (command : Command) (copy : Watched tree.History) (read : Option Table) (old new : History) → AsksRecord old new → AsksChange command copy read old new
+asks_read command copy read old new load = record { mid = new; end = new; past = extends_same new; later = extends_same new; quiet = refl; load = load; behind = inl refl }
 
-pub asks_nothing : (command : Command) (copy : Watched tree.History) (old new : History) → Extends old new → new.asked ≡ old.asked → AsksChange command copy old new
-asks_nothing command copy old new past none = asks_read command copy old new (asks_none old new past none)
+pub asks_nothing : (command : Command) (copy : Watched tree.History) (read : Option Table) (old new : History) → Extends old new → new.asked ≡ old.asked → AsksChange command copy read old new
+asks_nothing command copy read old new past none = asks_read command copy read old new (asks_none old new past none)

@@ -2,7 +2,8 @@
 use Rattle.std.proofs.Common.{ℕ, ◌≡◌, true, false, Option, Some, None, Result, Ok, Err, IfSome, IsTrue, refl, sym, subst, inl, inr, true≢false}
 use Rattle.std.specs.Option.{MatchOption}
 use Rattle.std.specs.Prelude.{IsSomeAnd, ◌⊎◌}
-use Rattle.hg_session.specs.Ends.{EndsChange}
+use Rattle.hg_session.specs.Changing.{EndsChange}
+use Rattle.hg_append.specs.declared.fault.EncodeFault.{EncodeFault}
 use Rattle.hg_append.specs.declared.fault.EncodeFault.TheVariants as an_encode_fault
 use Rattle.hg_base.specs.Fault.{Rose}
 use Rattle.hg_entry.specs.Table.{Table}
@@ -13,24 +14,25 @@ use Rattle.hg_ops.specs.declared.refusal.OpFault.TheVariants as an_op_fault
 use Rattle.hg_report.specs.Cause.{of_op, of_status}
 use Rattle.hg_report.specs.declared.fault.Fault.{Fault}
 use Rattle.hg_report.specs.declared.fault.Fault.TheVariants as a_fault
-use Rattle.hg_session.proofs.Firm.{firm_for, noted_upto}
-use Rattle.hg_session.proofs.Makers.{asks_none}
+use Rattle.hg_session.proofs.Firm.{noted_upto, safe_from}
+use Rattle.hg_session.proofs.Makers.{asks_none, may_note_nothing, may_nothing}
 use Rattle.hg_session.specs.Acts.{Makes}
 use Rattle.hg_session.specs.Answered.{IsAnswered, IsIdle, IsUnbuilt, Ran, made_by}
 use Rattle.hg_session.specs.Call.{Call, Count, Fails, IsLeftAlone, Looked, Saved, Sink, Watched}
 use Rattle.hg_session.specs.Cause.{CommandCause}
-use Rattle.hg_session.specs.Change.{IsSafe, IsUnwritten, MetChanging, MetDoing, MetLocking, makes_in, of_change}
+use Rattle.hg_session.specs.Change.{IsUnwritten, WroteOnly, MetChanging, MetDoing, MetLocking, makes_in, of_change, Made, MetStop, MetUnfit, come_so, only_so, IsLoadedFirst}
 use Rattle.hg_session.specs.Changed.{RanChange, change_look}
 use Rattle.hg_session.specs.Commands.{is_change, is_done}
-use Rattle.hg_session.specs.Crash.{IsOwnOf, published_in}
+use Rattle.hg_session.specs.Crash.{IsSafeFromCrashes}
 use Rattle.hg_session.specs.Debug.{AnswersPrinting, Prints, ShowsRecord}
 use Rattle.hg_session.specs.Flags.{wanted_of}
 use Rattle.hg_session.specs.Listed.{StatusCause}
 use Rattle.hg_session.specs.Load.{of_print, of_read}
 use Rattle.hg_session.specs.Loaded.{AsksRecord, IsLoaded, MetReading}
-use Rattle.hg_session.specs.Look.{EndsAs, IsCalm, IsLook, IsOutFault, LeavesAt, Concludes, OnlyReads, Stage, at_first, at_printing, at_saving, at_telling}
+use Rattle.hg_session.specs.Look.{IsCalm, IsOutFault, LeavesAt, Concludes, OnlyReads, Stage, at_first, at_printing, at_saving, at_telling}
+use Rattle.hg_session.specs.Looking.{EndsAs, DoesStatus}
 use Rattle.hg_session.specs.Put.{IsFaultOrMemory, OnStream, Tells}
-use Rattle.hg_session.specs.Status.{DoesStatus, IsLoadedFirst, ListingCause, RanStatus, noted_in, status_look}
+use Rattle.hg_session.specs.Status.{ListingCause, RanStatus, noted_in, status_look}
 use Rattle.hg_session.specs.declared.change_fault.ChangeFault.{ChangeFault}
 use Rattle.hg_session.specs.declared.change_fault.ChangeFault.TheVariants as a_change_fault
 use Rattle.hg_session.specs.declared.print_fault.PrintFault.{PrintFault}
@@ -43,8 +45,9 @@ use Rattle.hg_session.proofs.Looks.{joined, not_without, status_failed}
 use Rattle.hg_session.proofs.Printing.{never_rose}
 use Rattle.hg_session.proofs.Readings.{first_read, was_loaded}
 use Rattle.hg_session.proofs.Records.{record_by}
-use Rattle.hg_session.proofs.Statuses.{ran_status, status_calm, status_streams, status_tree}
+use Rattle.hg_session.proofs.Statuses.{ran_status, status_calm, status_streams, status_tree, well}
 use Rattle.hg_shelf.specs.History as shelf
+use Rattle.hg_shelf.specs.Images.{Scene}
 use Rattle.hg_walk.specs.Notes.{NotesData}
 use Rattle.hg_words.specs.declared.flags.StatusFlags.{StatusFlags}
 use Rattle.hg_words.specs.declared.given.Command.{Command}
@@ -63,9 +66,9 @@ by_printing : (call : Call) (fault : Fault) → IsOutFault fault → Rose call.o
 by_printing call fault (inl is) failed = subst (CommandCause call) (sym is) failed
 by_printing call fault (inr is) failed = subst (CommandCause call) (sym is) tt
 
--- nothing was written, or the shelf failed
-abbrev HadNoMemory : Call → Type 0
-HadNoMemory call = IsUnwritten call.saved.old.history call.saved.new.history ⊎ Fails call.looked.shelf
+-- nothing was written but what a command may, or the shelf failed
+abbrev HadNoMemory : Makes → Call → Type 0
+HadNoMemory Does call = WroteOnly Does.may call.saved ⊎ Fails call.looked.shelf
 
 module _ (call : Call) (flags : StatusFlags) (is : call.command ≡ a_command.Status flags) where
   by_status : (table : Table) → IsLoaded call.looked.shelf table → (fault : StatusFault) → StatusCause call.looked (wanted_of flags) table fault → CommandCause call (of_status fault)
@@ -92,7 +95,7 @@ module _ (call : Call) (flags : StatusFlags) (is : call.command ≡ a_command.St
     left_cause : (fault : Fault) → (stage : Stage) × LeavesAt (status_look flags call.looked call.saved call.locks table notes) call.out call.err Tells stage fault → CommandCause call fault
     left_cause fault (at_first, ((only, why), silent, line)) = by_listing table loaded fault why
     left_cause fault (at_printing, (printing, ready, front, kind, line)) = by_printing call fault kind front.failed
-    left_cause fault (at_telling, (telling, ready, puts, front, same)) = subst (CommandCause call) (sym same) front.failed
+    left_cause fault (at_telling, (telling, ready, printed, same)) = subst (CommandCause call) (sym same) printed.behind.failed
     left_cause fault (at_saving, (inl (failed, inl same), left)) =
         let is : fault ≡ a_fault.ShelfFailed = cc same in
         subst (CommandCause call) (sym is) failed
@@ -102,16 +105,16 @@ module _ (call : Call) (flags : StatusFlags) (is : call.command ≡ a_command.St
     left_cause fault (at_saving, (inr (same, none), left)) = subst (CommandCause call) (sym same) tt
 
     -- want of memory comes where nothing was written, or where the shelf failed too
-    status_left : (fault : Fault) → (stage : Stage) × LeavesAt (status_look flags call.looked call.saved call.locks table notes) call.out call.err Tells stage fault → fault ≡ a_fault.OutOfMemory → HadNoMemory call
-    status_left fault (at_first, ((only, why), silent, line)) is = inl (unwritten call.saved.old.history call.saved.new.history only.passes)
-    status_left fault (at_printing, (only, ready, front, kind, line)) is = inl (unwritten call.saved.old.history call.saved.new.history only.passes)
-    status_left fault (at_telling, (only, ready, puts, front, same)) is = absurd (cc (same, is))
-    status_left fault (at_saving, (inl (failed, kind), left)) is = inr failed
-    status_left fault (at_saving, (inr (same, none), left)) is = inl none
+    status_left : (Does : Makes) (fault : Fault) → (stage : Stage) × LeavesAt (status_look flags call.looked call.saved call.locks table notes) call.out call.err Tells stage fault → fault ≡ a_fault.OutOfMemory → HadNoMemory Does call
+    status_left Does fault (at_first, ((only, why), silent, line)) is = inl (inl (unwritten call.saved.old.history call.saved.new.history only.passes))
+    status_left Does fault (at_printing, (only, ready, front, kind, line)) is = inl (inl (unwritten call.saved.old.history call.saved.new.history only.passes))
+    status_left Does fault (at_telling, (only, ready, printed, same)) is = absurd (cc (same, is))
+    status_left Does fault (at_saving, (inl (failed, kind), left)) is = inr failed
+    status_left Does fault (at_saving, (inr (same, none), left)) is = inl (inl none)
 
-    pub status_memory : (fault : Option Fault) → Concludes (status_look flags call.looked call.saved call.locks table notes) call.out call.err fault → fault ≡ Some a_fault.OutOfMemory → HadNoMemory call
-    status_memory None looks is = absurd (cc is)
-    status_memory (Some fault) looks is = status_left fault looks.left (cc is)
+    pub status_memory : (Does : Makes) (fault : Option Fault) → Concludes (status_look flags call.looked call.saved call.locks table notes) call.out call.err fault → fault ≡ Some a_fault.OutOfMemory → HadNoMemory Does call
+    status_memory Does None looks is = absurd (cc is)
+    status_memory Does (Some fault) looks is = status_left Does fault looks.left (cc is)
 
     pub status_cause : (fault : Option Fault) → Concludes (status_look flags call.looked call.saved call.locks table notes) call.out call.err fault → IfSome fault (CommandCause call)
     status_cause None looks = tt
@@ -128,27 +131,37 @@ record_cause call fault (Err met) prints (inr memory, told) = subst (λ (f : Opt
 
 -- ---- a command that changes the record
 
-module _ (call : Call) (is : is_change call.command ≡ true) where
-  by_doing : (fault : OpFault) → MetDoing (makes_in call) call.looked.tree call.looked.shelf fault → CommandCause call (of_op fault)
+module _ (call : Call) (is : is_change call.command ≡ true) (read : Option Table) (work : Option Made) where
+  -- what the command makes, so far as it came
+  abbrev So : Makes
+  So = only_so (makes_in call) read work
+
+  stop_plain : (fault : Fault) → MetStop So call.looked.shelf fault → MetStop (makes_in call) call.looked.shelf fault
+  stop_plain fault met = record { loaded = met.loaded; read = met.read; stops = met.stops.1 }
+
+  unfit_plain : (fault : EncodeFault) → MetUnfit So call.looked.shelf fault → MetUnfit (makes_in call) call.looked.shelf fault
+  unfit_plain fault met = record { made = met.made; said = met.said; is = record { loaded = met.is.loaded; read = met.is.read; does = met.is.does.2 }; unfit = met.unfit }
+
+  by_doing : (fault : OpFault) → MetDoing So call.looked.tree call.looked.shelf fault → CommandCause call (of_op fault)
   by_doing an_op_fault.OutOfMemory met = tt
   by_doing an_op_fault.TreeFailed met = (met.1, was_loaded call.looked.shelf (λ told. (met.0.loaded, met.0.read told)))
   by_doing an_op_fault.ShelfFailed met = met.1
-  by_doing (an_op_fault.NoManifest id) met = inr (is, met.0)
-  by_doing (an_op_fault.ManifestTooLarge size) met = inr (is, met.0)
-  by_doing (an_op_fault.ManifestLine line) met = inr (is, met.0)
-  by_doing (an_op_fault.ManifestOrder line) met = inr (is, met.0)
-  by_doing (an_op_fault.NoContents id) met = inr (is, met.0)
+  by_doing (an_op_fault.NoManifest id) met = inr (is, stop_plain (a_fault.NoManifest id) met.0)
+  by_doing (an_op_fault.ManifestTooLarge size) met = inr (is, stop_plain (a_fault.ManifestTooLarge size) met.0)
+  by_doing (an_op_fault.ManifestLine line) met = inr (is, stop_plain (a_fault.ManifestLine line) met.0)
+  by_doing (an_op_fault.ManifestOrder line) met = inr (is, stop_plain (a_fault.ManifestOrder line) met.0)
+  by_doing (an_op_fault.NoContents id) met = inr (is, stop_plain (a_fault.NoContents id) met.0)
 
-  by_changing : (fault : ChangeFault) → MetChanging (makes_in call) call.looked.tree call.looked.shelf fault → CommandCause call (of_change fault)
+  by_changing : (fault : ChangeFault) → MetChanging So call.looked.tree call.looked.shelf fault → CommandCause call (of_change fault)
   by_changing (a_change_fault.Read fault) met = by_reading call fault met.0
   by_changing (a_change_fault.Op fault) met = by_doing fault met
   by_changing (a_change_fault.Encode an_encode_fault.OutOfMemory) met = tt
-  by_changing (a_change_fault.Encode (an_encode_fault.TooLarge size)) met = (is, met)
-  by_changing (a_change_fault.Encode an_encode_fault.IdsSpent) met = (is, met)
+  by_changing (a_change_fault.Encode (an_encode_fault.TooLarge size)) met = (is, unfit_plain (an_encode_fault.TooLarge size) met)
+  by_changing (a_change_fault.Encode an_encode_fault.IdsSpent) met = (is, unfit_plain an_encode_fault.IdsSpent met)
   by_changing a_change_fault.Held met = absurd met
   by_changing a_change_fault.ShelfFailed met = met.0
 
-  by_locking : (fault : ChangeFault) → MetLocking (makes_in call) call.looked.tree call.looked.shelf call.locks fault → CommandCause call (of_change fault)
+  by_locking : (fault : ChangeFault) → MetLocking So call.looked.tree call.looked.shelf call.locks fault → CommandCause call (of_change fault)
   by_locking fault (inl met) = by_changing fault met
   by_locking fault (inr (held, rose, alone)) = subst (λ (f : ChangeFault). CommandCause call (of_change f)) (sym held) (is, rose)
 
@@ -156,7 +169,7 @@ module _ (call : Call) (is : is_change call.command ≡ true) where
   by_saving fault failed (inl same) = subst (CommandCause call) (sym same) failed
   by_saving fault failed (inr same) = subst (CommandCause call) (sym same) tt
 
-  change_left : (fault : Fault) → (stage : Stage) × LeavesAt (change_look (makes_in call) call) call.out call.err Tells stage fault → CommandCause call fault
+  change_left : (fault : Fault) → (stage : Stage) × LeavesAt (change_look So call) call.out call.err Tells stage fault → CommandCause call fault
   change_left fault (at_first, ((none, f, inl same, met), silent, line)) =
       let is : fault ≡ of_change f = cc same in
       subst (CommandCause call) (sym is) (by_locking f met)
@@ -164,21 +177,21 @@ module _ (call : Call) (is : is_change call.command ≡ true) where
       let is : fault ≡ a_fault.OutOfMemory = cc memory in
       subst (CommandCause call) (sym is) tt
   change_left fault (at_printing, (never, ready, front, kind, line)) = absurd never
-  change_left fault (at_telling, (telling, ready, puts, front, same)) = subst (CommandCause call) (sym same) front.failed
+  change_left fault (at_telling, (telling, ready, printed, same)) = subst (CommandCause call) (sym same) printed.behind.failed
   change_left fault (at_saving, ((failed, kind), left)) = by_saving fault failed.0 kind
 
   -- want of memory comes where nothing was written, or where the shelf failed too
-  change_memory_left : (fault : Fault) → (stage : Stage) × LeavesAt (change_look (makes_in call) call) call.out call.err Tells stage fault → fault ≡ a_fault.OutOfMemory → HadNoMemory call
+  change_memory_left : (fault : Fault) → (stage : Stage) × LeavesAt (change_look So call) call.out call.err Tells stage fault → fault ≡ a_fault.OutOfMemory → HadNoMemory So call
   change_memory_left fault (at_first, ((none, f, why, met), silent, line)) memory = inl none
   change_memory_left fault (at_printing, (never, ready, front, kind, line)) memory = absurd never
-  change_memory_left fault (at_telling, (telling, ready, puts, front, same)) memory = absurd (cc (same, memory))
+  change_memory_left fault (at_telling, (telling, ready, printed, same)) memory = absurd (cc (same, memory))
   change_memory_left fault (at_saving, ((failed, kind), left)) memory = inr failed.0
 
-  changed_memory : (fault : Option Fault) → Concludes (change_look (makes_in call) call) call.out call.err fault → fault ≡ Some a_fault.OutOfMemory → HadNoMemory call
+  changed_memory : (fault : Option Fault) → Concludes (change_look So call) call.out call.err fault → fault ≡ Some a_fault.OutOfMemory → HadNoMemory So call
   changed_memory None looks memory = absurd (cc memory)
   changed_memory (Some fault) looks memory = change_memory_left fault looks.left (cc memory)
 
-  changed_cause : (fault : Option Fault) → Concludes (change_look (makes_in call) call) call.out call.err fault → IfSome fault (CommandCause call)
+  changed_cause : (fault : Option Fault) → Concludes (change_look So call) call.out call.err fault → IfSome fault (CommandCause call)
   changed_cause None looks = tt
   changed_cause (Some fault) looks = change_left fault looks.left
 
@@ -188,37 +201,29 @@ looked_status : (code : ℕ) (fault : Option Fault) → MatchOption fault (code 
 looked_status code None is = inl is
 looked_status code (Some fault) is = is
 
-pub answered_looked : (call : Call) (code : ℕ) (fault : Option Fault) → Ran call.command call code fault → IsLook call code fault → IsUnwritten call.saved.old.history call.saved.new.history
-    → IsLeftAlone call.looked.tree → OnStream fault (call.looked.shelf.after ≡ call.looked.shelf.before) → IfSome fault (CommandCause call) → IsAnswered call code fault
-answered_looked call code fault ran look none alone streams cause = record {
-  ran = ran;
-  cause = cause;
-  calm = look.calm;
-  streams = streams;
-  tree = λ rose. absurd (never_rose call.looked.tree.before call.looked.tree.after alone.count rose);
-  memory = λ is. inl none;
-  kept = look.only.kept;
-  crash = λ calm keep first ground. (None, tt, look.crash calm keep first);
-  latest = λ calm keep first. (look.crash calm keep first).latest;
-  status = looked_status code fault look.status;
-}
+pub answered_looked : (call : Call) (code : ℕ) (fault : Option Fault) → Ran call.command call code fault → OnlyReads call.saved call.locks → (fault ≡ None → IsCalm call.looked call.out call.err)
+    → MatchOption fault (code ≡ 0) (λ f. code ≡ 255) → IsLeftAlone call.looked.tree → OnStream fault (call.looked.shelf.after ≡ call.looked.shelf.before) → IfSome fault (CommandCause call) → IsAnswered call code fault
+answered_looked call code fault ran only calm status alone streams cause =
+    let none : IsUnwritten call.saved.old.history call.saved.new.history = unwritten call.saved.old.history call.saved.new.history only.passes in
+    record {
+      ran = ran;
+      cause = cause;
+      calm = calm;
+      streams = streams;
+      tree = λ rose. absurd (never_rose call.looked.tree.before call.looked.tree.after alone.count rose);
+      memory = λ is. inl (inl none);
+      kept = only.kept;
+      crash = λ calm keep first ground. (None, tt, crash_unwritten call.saved.old call.saved.new only.kept calm keep none first);
+      latest = λ calm keep first. (crash_unwritten call.saved.old call.saved.new only.kept calm keep none first).latest;
+      status = looked_status code fault status;
+    }
 
 on_stream : {Is : Type 0} (fault : Option Fault) → Is → OnStream fault Is
 on_stream None is = tt
 on_stream (Some fault) is = λ stream. is
 
--- a call that only looked
-look_by : (call : Call) (code : ℕ) (fault : Option Fault) → OnlyReads call.looked.shelf call.saved call.locks → IsUnwritten call.saved.old.history call.saved.new.history
-    → (fault ≡ None → IsCalm call.looked call.out call.err) → MatchOption fault (code ≡ 0) (λ f. code ≡ 255) → IsLook call code fault
-look_by call code fault only none calm status = record {
-  only = only;
-  crash = λ kept keep first. crash_unwritten call.saved.old call.saved.new only.kept kept keep none first;
-  calm = calm;
-  status = status;
-}
-
 -- a command that changes the record
-ran_changed : (call : Call) (code : ℕ) (fault : Option Fault) → RanChange call code fault → (command : Command) → is_change command ≡ true → Ran command call code fault
+abbrev ran_changed : (call : Call) (code : ℕ) (fault : Option Fault) → RanChange call code fault → (command : Command) → is_change command ≡ true → Ran command call code fault
 ran_changed call code fault changed (a_command.Status flags) is = absurd (true≢false (sym is))
 ran_changed call code fault changed (a_command.Add files) is = changed
 ran_changed call code fault changed (a_command.Forget files) is = changed
@@ -229,22 +234,18 @@ ran_changed call code fault changed a_command.DebugDirstate is = absurd (true≢
 ran_changed call code fault changed a_command.DebugScript is = absurd (true≢false (sym is))
 ran_changed call code fault changed (a_command.DebugLoad n) is = absurd (true≢false (sym is))
 
--- what was published is of what the command made
-own_of : (Does : Makes) (saved : Saved) (fault : Option Fault) (safe : IsSafe Does saved fault) → IsOwnOf Does saved (published_in Does saved fault safe)
-own_of Does saved fault (inl none) = tt
-own_of Does saved fault (inr (may, is)) = (is, refl)
-
-own_changed : (call : Call) (code : ℕ) (fault : Option Fault) (changed : RanChange call code fault) (command : Command) (is : is_change command ≡ true) (own : Option Table)
-    → IsOwnOf (makes_in call) call.saved own → IsOwnOf (made_by command call code fault (ran_changed call code fault changed command is)) call.saved own
-own_changed call code fault changed (a_command.Status flags) is own by = absurd (true≢false (sym is))
-own_changed call code fault changed (a_command.Add files) is own by = by
-own_changed call code fault changed (a_command.Forget files) is own by = by
-own_changed call code fault changed (a_command.Remove after files) is own by = by
-own_changed call code fault changed (a_command.Copy source target) is own by = by
-own_changed call code fault changed (a_command.SetParents p1 p2) is own by = by
-own_changed call code fault changed a_command.DebugDirstate is own by = absurd (true≢false (sym is))
-own_changed call code fault changed a_command.DebugScript is own by = absurd (true≢false (sym is))
-own_changed call code fault changed (a_command.DebugLoad n) is own by = absurd (true≢false (sym is))
+-- what is said of what a command makes holds of what one did that changes the record
+by_changed : (Of : Makes → Type 0) (call : Call) (code : ℕ) (fault : Option Fault) (changed : RanChange call code fault) (command : Command) (is : is_change command ≡ true)
+    → Of (come_so changed.come) → Of (made_by command call code fault (ran_changed call code fault changed command is))
+by_changed Of call code fault changed (a_command.Status flags) is by = absurd (true≢false (sym is))
+by_changed Of call code fault changed (a_command.Add files) is by = by
+by_changed Of call code fault changed (a_command.Forget files) is by = by
+by_changed Of call code fault changed (a_command.Remove after files) is by = by
+by_changed Of call code fault changed (a_command.Copy source target) is by = by
+by_changed Of call code fault changed (a_command.SetParents p1 p2) is by = by
+by_changed Of call code fault changed a_command.DebugDirstate is by = absurd (true≢false (sym is))
+by_changed Of call code fault changed a_command.DebugScript is by = absurd (true≢false (sym is))
+by_changed Of call code fault changed (a_command.DebugLoad n) is by = absurd (true≢false (sym is))
 
 pub answered_changed : (call : Call) (code : ℕ) (fault : Option Fault) → is_change call.command ≡ true → EndsChange call code fault → MatchOption fault ((code ≡ 0) ⊎ (code ≡ 1)) (λ f. code ≡ 255)
     → IsAnswered call code fault
@@ -252,22 +253,20 @@ answered_changed call code fault is ends status =
     let changed = ends.ran in
     record {
       ran = ran_changed call code fault changed call.command is;
-      cause = changed_cause call is fault changed.shows;
+      cause = changed_cause call is changed.come.read changed.come.work fault changed.shows;
       calm = ends.calm;
       streams = ends.streams;
       tree = ends.tree;
-      memory = changed_memory call is fault changed.shows;
-      kept = changed.kept;
-      crash = λ calm keep first ground. (
-        published_in (makes_in call) call.saved fault (changed.safe calm),
-        own_changed call code fault changed call.command is (published_in (makes_in call) call.saved fault (changed.safe calm)) (own_of (makes_in call) call.saved fault (changed.safe calm)),
-        changed.crash calm keep first
-            (firm_for call.saved.old call.saved.new ground (makes_in call) fault (changed.safe calm)
-            (λ k later within none. asks_none call.command call.looked.tree call.looked.shelf call.saved.new.history k)),
-      );
-      latest = λ calm keep first. latest_safe call.saved.old call.saved.new changed.kept calm keep (makes_in call) first fault (changed.safe calm);
+      memory = λ none. by_changed (λ Does. HadNoMemory Does call) call code fault changed call.command is (changed_memory call is changed.come.read changed.come.work fault changed.shows none);
+      kept = ends.kept;
+      crash = by_changed (λ Does. IsSafeFromCrashes Does call.saved) call code fault changed call.command is
+          (safe_from call.saved ends.kept (come_so changed.come) nothing (λ ground k later within none. asks_none call.command call.looked.tree call.looked.shelf call.saved.new.history k) fault changed.safe);
+      latest = λ calm keep first. latest_safe call.saved.old call.saved.new ends.kept calm keep (come_so changed.come) nothing first fault (changed.safe calm);
       status = status;
     }
+  where
+    nothing : (before behind : Scene) → (makes_in call).may before behind → ⊥
+    nothing = may_nothing call.command call.looked.tree call.looked.shelf
 
 -- a status, from what it did and what was told behind it
 some_read : (files : Watched shelf.History) (table : Option Table) → IfSome table (IsLoadedFirst files) → IfSome table (IsLoaded files)
@@ -287,27 +286,20 @@ answered_status command flags looked saved locks out mid tail bytes count done c
       calm = status_calm command flags looked saved locks out mid tail bytes count done code fault does ends;
       streams = status_streams command flags looked saved locks out mid tail bytes count done code fault does ends;
       tree = status_tree command flags looked saved locks out mid tail bytes count done code fault does ends;
-      memory = status_memory call flags refl ran.notes ran.table (some_read looked.shelf ran.table ran.loaded) fault ran.looks;
-      kept = ran.saving.kept;
-      crash = λ calm keep first ground. (
-        published_in (noted_in looked.shelf ran.table ran.notes) saved fault (ran.saving.safe calm),
-        own_of (noted_in looked.shelf ran.table ran.notes) saved fault (ran.saving.safe calm),
-        ran.crash calm keep first
-            (firm_for saved.old saved.new ground (noted_in looked.shelf ran.table ran.notes) fault (ran.saving.safe calm)
-            (noted_upto saved.old saved.new ground looked.shelf same ran.table ran.notes)),
-      );
-      latest = λ calm keep first. latest_safe saved.old saved.new ran.saving.kept calm keep (noted_in looked.shelf ran.table ran.notes) first fault (ran.saving.safe calm);
+      memory = status_memory call flags refl ran.notes ran.table (some_read looked.shelf ran.table ran.loaded) (noted_in looked.shelf ran.table ran.notes) fault ran.looks;
+      kept = does.kept;
+      crash = safe_from saved does.kept (noted_in looked.shelf ran.table ran.notes) (may_note_nothing looked.shelf ran.table ran.notes) (λ ground. noted_upto saved.old saved.new ground looked.shelf same ran.table ran.notes) fault ran.saving.safe;
+      latest = λ calm keep first. latest_safe saved.old saved.new does.kept calm keep (noted_in looked.shelf ran.table ran.notes) (may_note_nothing looked.shelf ran.table ran.notes) first fault (ran.saving.safe calm);
       status = looked_status code fault ends.status;
     })
 
 -- the command that prints the record
 pub answered_record : (call : Call) (code : ℕ) (fault : Option Fault) → call.command ≡ a_command.DebugDirstate → ShowsRecord call.looked.shelf call.out call.err fault
     → (IsTrue call.looked.shelf.old.told → AsksRecord call.looked.shelf.old call.looked.shelf.new) → IsLeftAlone call.looked.tree → call.looked.oversize.after ≡ call.looked.oversize.before
-    → (fault ≡ None → IsCalm call.looked call.out call.err) → OnlyReads call.looked.shelf call.saved call.locks → IsUnwritten call.saved.old.history call.saved.new.history
+    → (fault ≡ None → IsCalm call.looked call.out call.err) → OnlyReads call.saved call.locks → shelf.Passes call.looked.shelf.old call.looked.shelf.new
     → MatchOption fault (code ≡ 0) (λ f. code ≡ 255) → OnStream fault (call.looked.shelf.after ≡ call.looked.shelf.before) → IsAnswered call code fault
-answered_record call code fault is shows below alone uncounted calm only none status streams =
-    let look : IsLook call code fault = look_by call code fault only none calm status in
-    answered_looked call code fault (subst (λ (c : Command). Ran c call code fault) (sym is) (record_by call only.passes fault shows below alone uncounted code look)) look none alone streams
+answered_record call code fault is shows below alone uncounted calm only passes status streams =
+    answered_looked call code fault (subst (λ (c : Command). Ran c call code fault) (sym is) (record_by call passes fault shows below alone uncounted code only (well code fault status))) only calm status alone streams
     (record_cause call fault shows.came shows.prints shows.tells)
 
 -- ---- a command that isn't built
@@ -328,10 +320,8 @@ unbuilt_cause call answered (inl same) is = subst (λ (f : Option Fault). IfSome
 unbuilt_cause call answered (inr memory) is = subst (λ (f : Option Fault). IfSome f (CommandCause call)) (sym memory) tt
 
 pub answered_unbuilt : (call : Call) (code : ℕ) (fault : Option Fault) → is_done call.command ≡ false → IsFaultOrMemory fault a_fault.NotBuilt → IfSome fault (Tells call.err)
-    → IsIdle call.looked call.saved call.locks call.out → shelf.Passes call.looked.shelf.old call.looked.shelf.new → code ≡ 255 → IsAnswered call code fault
+    → IsIdle call.looked call.saved call.locks call.out → shelf.Passes call.saved.old.history call.saved.new.history → code ≡ 255 → IsAnswered call code fault
 answered_unbuilt call code fault is answered told idle passes status =
-    let look : IsLook call code fault =
-    look_by call code fault (record { passes = passes; kept = idle.kept; held = idle.held }) idle.unwritten (λ none. not_without fault a_fault.NotBuilt answered none)
-    (status_failed code a_fault.NotBuilt fault answered status) in
-    answered_looked call code fault (ran_unbuilt call code fault (record { undone = record { answered = answered; told = told; idle = idle; status = status }; look = look }) call.command is) look idle.unwritten idle.copy (on_stream fault idle.files_count)
-    (unbuilt_cause call fault answered is)
+    answered_looked call code fault (ran_unbuilt call code fault (record { answered = answered; told = told; idle = idle; status = status }) call.command is)
+    (record { passes = passes; kept = idle.kept; held = idle.held }) (λ none. not_without fault a_fault.NotBuilt answered none) (status_failed code a_fault.NotBuilt fault answered status) idle.copy
+    (on_stream fault idle.files_count) (unbuilt_cause call fault answered is)

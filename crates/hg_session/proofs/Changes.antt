@@ -16,6 +16,7 @@ use Rattle.hg_ops.proofs.Added.{same_table}
 use Rattle.hg_save.specs.Over.{HasUsed, IsLentRight}
 use Rattle.hg_ops.specs.declared.refusal.OpFault.{OpFault}
 use Rattle.hg_ops.specs.declared.refusal.OpFault.TheVariants as an_op
+use Rattle.hg_report.specs.Cause.{of_op}
 use Rattle.hg_report.specs.declared.fault.Fault.{Fault}
 use Rattle.hg_save.specs.Loads.{IsLoad, IsTry, Loads, Tries, Try, files_at, found_by}
 use Rattle.hg_save.specs.Others.{IsFrontOf, named_file}
@@ -25,12 +26,14 @@ use Rattle.hg_save.specs.declared.load_fault.LoadFault.{LoadFault}
 use Rattle.hg_save.specs.declared.loaded.Loaded.{Loaded}
 use Rattle.hg_save.proofs.Loads.{found_longer, last_within, tries_longer}
 use Rattle.hg_session.specs.Acts.{AsksBehind, ChangesTree, Makes}
-use Rattle.hg_session.specs.Anew.{IsOpened, IsOverwritten, IsRecorded, LoadsOrRefuses, MetWriting, WritesOnly}
+use Rattle.hg_session.specs.Anew.{IsOverwritten, IsRecorded, MetWriting, WritesOnly}
+use Rattle.hg_session.specs.Reading.{IsOpened, LoadsOrRefuses, by_load, NodesFind}
 use Rattle.hg_session.specs.Call.{Fails, IsLeftAlone, Watched}
-use Rattle.hg_session.specs.Change.{AsksChange, ChangesBehind, IsDone, IsKept, IsMade, IsPublished, IsReadFirst, IsSafeHeld, IsToBlame, IsUnwritten, MetChanging, MetUnfit, stood_read, up_to}
-use Rattle.hg_session.specs.Load.{by_load}
-use Rattle.hg_session.specs.Loaded.{AsksRecord, NodesFind, Refuses}
+use Rattle.hg_session.specs.Change.{AsksChange, ChangesBehind, IsDone, IsKept, IsMade, IsPublished, IsReadFirst, IsToBlame, IsUnwritten, MetChanging, MetUnfit, stood_read, up_to, Come}
+use Rattle.hg_session.specs.Changing.{IsSafeHeld}
+use Rattle.hg_session.specs.Loaded.{AsksRecord, Refuses}
 use Rattle.hg_session.specs.Kept.{KeepsLent}
+use Rattle.hg_session.specs.Told.{Told}
 use Rattle.hg_session.specs.Ways.{CanWrite, Fits, IsMadeOver, LendsUnchanged, stood_by, stood_in}
 use Rattle.hg_session.specs.declared.change_fault.ChangeFault.{ChangeFault}
 use Rattle.hg_session.specs.declared.change_fault.ChangeFault.TheVariants as a_change_fault
@@ -43,7 +46,7 @@ use Rattle.hg_session.proofs.ReadNodes.{nodes_by}
 use Rattle.hg_session.proofs.Readings.{refused_by, sound_reading}
 use Rattle.hg_session.proofs.SameTables.{one_table}
 use Rattle.hg_shelf.specs.History as shelf
-use Rattle.hg_shelf.specs.History.{Extends, Files, History, Passes, us}
+use Rattle.hg_shelf.specs.History.{Extends, Files, History, Passes}
 use Rattle.hg_shelf.specs.Images.{Course, Goes, last_scene, scene}
 use Rattle.hg_shelf.specs.Polite.{Undisturbed}
 use Rattle.hg_tree.specs.History as tree
@@ -80,6 +83,10 @@ module _ (Does : Makes) (copy : Watched tree.History) (files : Watched shelf.His
   met_opened IsOf loaded (a_read.Docket fault) sound loads finds alone = absurd finds
   met_opened IsOf loaded (a_read.DataGone ids) sound loads finds alone = absurd finds
   met_opened IsOf loaded a_read.Failed sound loads finds alone = absurd finds
+
+-- it came to nothing
+abbrev pub none_come : (Does : Makes) (files : Watched shelf.History) → Come Does files
+none_come Does files = record { read = None; loaded = tt; work = None; does = tt }
 
 -- ---- the record that was read first
 
@@ -169,21 +176,21 @@ module _ (a b c : Course) (passes : Passes a.history b.history) (goes : Goes b c
 
   -- what the command met behind it
   pub met_acting : (Does : Makes) (copy : Watched tree.History) (opened : Held) (begun : IsOpened loaded recorded opened) (before mid after : ℕ) (fault : OpFault)
-      → mid ≡ before → Does.stops (table opened) fault → (fault ≡ an_op.TreeFailed → Fails copy) → (fault ≡ an_op.ShelfFailed → Rose mid after)
+      → mid ≡ before → Does.stops (table opened) (of_op fault) → (fault ≡ an_op.TreeFailed → Fails copy) → (fault ≡ an_op.ShelfFailed → Rose mid after)
       → MetChanging Does copy (record { old = a.history; new = c.history; before = before; after = after }) (a_change_fault.Op fault)
   met_acting Does copy opened begun before mid after fault still stops tree_failed shelf_failed = (
-    record { loaded = recorded; read = read_first; stops = subst (λ (t : Table). Does.stops t fault) (one_table (table opened) recorded begun.same) stops },
+    record { loaded = recorded; read = read_first; stops = subst (λ (t : Table). Does.stops t (of_op fault)) (one_table (table opened) recorded begun.same) stops },
     to_blame copy (record { old = a.history; new = c.history; before = before; after = after }) fault tree_failed (λ is. subst (λ (n : ℕ). Rose n after) still (shelf_failed is)),
   )
 
   -- what becomes of the working copy behind it
   pub changes_by : (command : Command) (copy : Watched tree.History) (opened : Held) (begun : IsOpened loaded recorded opened) → ChangesTree command (table opened) copy
-      → ChangesBehind command copy (record { old = a.history; new = c.history; before = 0; after = 0 })
-  changes_by command copy opened begun changes = inr (recorded, read_first, subst (λ (t : Table). ChangesTree command t copy) (one_table (table opened) recorded begun.same) changes)
+      → ChangesBehind command copy (Some recorded)
+  changes_by command copy opened begun changes = inr (subst (λ (t : Table). ChangesTree command t copy) (one_table (table opened) recorded begun.same) changes)
 
   -- what was asked for, the record first
   pub asks_by : (command : Command) (copy : Watched tree.History) (opened : Held) (begun : IsOpened loaded recorded opened) (mid : History) → Extends mid b.history → c.history.asked ≡ b.history.asked
-      → (IsTrue a.history.told → AsksRecord a.history mid) → (IsTrue mid.told → AsksBehind command copy (table opened) mid b.history) → Extends a.history mid → IsTrue a.history.told → AsksChange command copy a.history c.history
+      → (IsTrue a.history.told → AsksRecord a.history mid) → (IsTrue mid.told → AsksBehind command copy (table opened) mid b.history) → Extends a.history mid → IsTrue a.history.told → AsksChange command copy (Some recorded) a.history c.history
   asks_by command copy opened begun mid past quiet load asks first told = record {
     mid = mid;
     end = b.history;
@@ -191,13 +198,13 @@ module _ (a b c : Course) (passes : Passes a.history b.history) (goes : Goes b c
     later = goes.past;
     quiet = quiet;
     load = load told;
-    behind = inr (recorded, read_first told, subst (λ (t : Table). AsksBehind command copy t mid b.history) (one_table (table opened) recorded begun.same) (asks (first.told ∙ told)));
+    behind = inr (subst (λ (t : Table). AsksBehind command copy t mid b.history) (one_table (table opened) recorded begun.same) (asks (first.told ∙ told)));
   }
 
   module _ (Does : Makes) (opened made : Held) (begun : IsOpened loaded recorded opened) (image : IsOfSameImage opened made) (keeps : KeepsLent opened made)
-      (lines : List ℕ) (acted : Does.does (table opened) (table made) lines made.changed) where
-    does_from : Does.does recorded (table made) lines made.changed
-    does_from = subst (λ (t : Table). Does.does t (table made) lines made.changed) (one_table (table opened) recorded begun.same) acted
+      (said : Told) (acted : Does.does (table opened) (table made) said made.changed) where
+    does_from : Does.does recorded (table made) said made.changed
+    does_from = subst (λ (t : Table). Does.does t (table made) said made.changed) (one_table (table opened) recorded begun.same) acted
 
     unwritten_still : c ≡ b → IsUnwritten a.history c.history
     unwritten_still none = subst (λ (x : Course). IsUnwritten a.history x.history) (sym none) (unwritten a.history b.history passes)
@@ -211,25 +218,25 @@ module _ (a b c : Course) (passes : Passes a.history b.history) (goes : Goes b c
     lends_made : IsLentRight made → LendsUnchanged made
     lends_made = lends_by opened made image.docket image.bytes begun.image begun.lent begun.placed keeps
 
-    abbrev made_by : (before after : ℕ) → IsMade Does (record { old = a.history; new = c.history; before = before; after = after }) (table made) lines made.changed
+    abbrev made_by : (before after : ℕ) → IsMade Does (record { old = a.history; new = c.history; before = before; after = after }) (table made) said made.changed
     made_by before after = record { loaded = recorded; read = read_first; does = does_from }
 
     -- where something was changed
-    abbrev made_anew : (before after : ℕ) → made.changed ≡ true → IsMade Does (record { old = a.history; new = c.history; before = before; after = after }) (table made) lines true
-    made_anew before after set = record { loaded = recorded; read = read_first; does = subst (λ (changed : Bool). Does.does recorded (table made) lines changed) set does_from }
+    abbrev made_anew : (before after : ℕ) → made.changed ≡ true → IsMade Does (record { old = a.history; new = c.history; before = before; after = after }) (table made) said true
+    made_anew before after set = record { loaded = recorded; read = read_first; does = subst (λ (changed : Bool). Does.does recorded (table made) said changed) set does_from }
 
     by_unfit : (copy : Watched tree.History) (before after : ℕ) (fault : EncodeFault) → HasCauseBy made (plan_of made) fault → made.changed ≡ true → IsLentRight made
         → MetUnfit Does (record { old = a.history; new = c.history; before = before; after = after }) fault
     by_unfit copy before after fault cause set whole = record {
       made = table made;
-      lines = lines;
+      said = said;
       is = made_anew before after set;
       unfit = λ told. record { held = made; over = over_read made docket_is bytes_is (lends_made whole) told; cause = cause };
     }
 
     by_encode : (copy : Watched tree.History) (before after : ℕ) (fault : EncodeFault) → HasCauseBy made (plan_of made) fault → made.changed ≡ true → IsLentRight made
         → MetChanging Does copy (record { old = a.history; new = c.history; before = before; after = after }) (a_change_fault.Encode fault)
-    by_encode copy before after an_encode.OutOfMemory cause set whole = record { made = table made; lines = lines; changed = true; is = made_anew before after set }
+    by_encode copy before after an_encode.OutOfMemory cause set whole = record { made = table made; said = said; changed = true; is = made_anew before after set }
     by_encode copy before after (an_encode.TooLarge size) cause set whole = by_unfit copy before after (an_encode.TooLarge size) cause set whole
     by_encode copy before after an_encode.IdsSpent cause set whole = by_unfit copy before after an_encode.IdsSpent cause set whole
 
@@ -237,7 +244,7 @@ module _ (a b c : Course) (passes : Passes a.history b.history) (goes : Goes b c
     pub met_writing : (copy : Watched tree.History) (before mid after : ℕ) (fault : ChangeFault) → mid ≡ before → (made.changed ≡ true → IsLentRight made) → MetWriting made mid after fault → MetChanging Does copy (record { old = a.history; new = c.history; before = before; after = after }) fault
     met_writing copy before mid after fault still whole (inl (e, is, cause, set)) = subst (MetChanging Does copy (record { old = a.history; new = c.history; before = before; after = after })) (sym is) (by_encode copy before after e cause set (whole set))
     met_writing copy before mid after fault still whole (inr (is, rose)) =
-        subst (MetChanging Does copy (record { old = a.history; new = c.history; before = before; after = after })) (sym is) (subst (λ (n : ℕ). Rose n after) still rose, inr (record { made = table made; lines = lines; changed = made.changed; is = made_by before after }))
+        subst (MetChanging Does copy (record { old = a.history; new = c.history; before = before; after = after })) (sym is) (subst (λ (n : ℕ). Rose n after) still rose, inr (record { made = table made; said = said; changed = made.changed; is = made_by before after }))
 
     -- ---- what is left of it
 
@@ -259,8 +266,8 @@ module _ (a b c : Course) (passes : Passes a.history b.history) (goes : Goes b c
 
       published_by : (made.changed ≡ true → IsLentRight made) → IsOverwritten made loaded b c → IsPublished Does c a.history.last c.history.last
       published_by whole over =
-          published_over a b c ours passes goes calm loaded stands made docket_is bytes_is Does (λ fair. used_there) (lends_made (whole over.changed)) recorded lines (λ fair. there)
-          (subst (λ (changed : Bool). Does.does recorded (table made) lines changed) over.changed does_from) over
+          published_over a b c ours passes goes calm loaded stands made docket_is bytes_is Does (λ fair. used_there) (lends_made (whole over.changed)) recorded said (λ fair. there)
+          (subst (λ (changed : Bool). Does.does recorded (table made) said changed) over.changed does_from) over
 
       -- nothing was written, or the table was over the record that stood
       pub safe_by : (made.changed ≡ true → IsLentRight made) → (fault : Option Fault) → WritesOnly made loaded b c fault → IsSafeHeld Does (record { old = a; new = c }) fault
@@ -287,7 +294,7 @@ module _ (a b c : Course) (passes : Passes a.history b.history) (goes : Goes b c
     -- it was done, and what was made is recorded
     pub done_by : (before after : ℕ) → a.history.ours ≡ true → (made.changed ≡ false → IsSame (table made) (table opened))
         → (made.changed ≡ true → CanWrite made) → (made.changed ≡ true → IsLentRight made) → (made.changed ≡ false → c ≡ b) → (Undisturbed a c → made.changed ≡ true → IsRecorded made b c)
-        → IsDone Does (record { old = a.history; new = c.history; before = before; after = after }) (record { old = a; new = c }) a.history.last c.history.last lines
+        → IsDone Does (record { old = a.history; new = c.history; before = before; after = after }) (record { old = a; new = c }) a.history.last c.history.last said
     done_by before after ours stays can whole none records = record {
       made = table made;
       changed = made.changed;

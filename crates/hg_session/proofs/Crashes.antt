@@ -12,15 +12,17 @@ use Rattle.hg_save.proofs.Published.{keeps_front, keeps_later, latest_still, lat
 use Rattle.hg_save.specs.Others.{KeepsRecords, WasPublished}
 use Rattle.hg_save.specs.Record.{IsReadable, reading}
 use Rattle.hg_save.specs.Saved.{IsLatest, ReadsAsBeforeOr}
+use Rattle.hg_session.proofs.Makers.{none_since, unwritten_only}
+use Rattle.hg_session.proofs.OwnTables.{IsFirmFor, published_in}
 use Rattle.hg_session.proofs.UsedSteps.{used_front}
-use Rattle.hg_session.specs.Acts.{Makes}
+use Rattle.hg_session.specs.Acts.{Makes, makes_nothing}
 use Rattle.hg_session.specs.Call.{Saved}
 use Rattle.hg_session.specs.Change.{IsFirm, IsKept, IsSafe, IsUnwritten, NoneOurs, Publishes, Stretch}
-use Rattle.hg_session.specs.Crash.{IsCrashSafe, IsFirmFor, IsLasting, LeavesSound, MightBeLeft, published_in}
+use Rattle.hg_session.specs.Crash.{IsCrashSafe, IsLasting, LeavesSound, MightBeLeft}
 use Rattle.hg_session.specs.Ways.{Stood}
 use Rattle.hg_shelf.proofs.Scenes.{only_later}
 use Rattle.hg_shelf.specs.History.{Files, others, us}
-use Rattle.hg_shelf.specs.Images.{Course, Goes, last_scene, scene}
+use Rattle.hg_shelf.specs.Images.{Course, Goes, Scene, last_scene, scene}
 use Rattle.hg_shelf.specs.Polite.{Undisturbed}
 
 -- none of the steps of a span is the caller's, so none of those of its front or its end is
@@ -69,66 +71,76 @@ module _ (a b : Course) (goes : Goes a b) (calm : Undisturbed a b) (keep : Keeps
   known_sound Own own_sound sound k within r (inr (inl own)) = own_sound r own
   known_sound Own own_sound sound k within r (inr (inr was)) = published_sound b start k r keep within was
 
-  module _ (Does : Makes) (first : IsLatest (last_scene a)) where
+  module _ (Does : Makes) (nothing : (before behind : Scene) → Does.may before behind → ⊥) (first : IsLatest (last_scene a)) where
     first_there : IsLatest (scene b start)
     first_there = latest_still (last_scene a) (scene b start) (goes.kept start (omega arith)) first
 
-    latest_got : (is : Publishes Does saved) → IsLatest (scene b is.stretch.from)
-    latest_got is = latest_until b start calm.others keep is.stretch.from is.stretch.start is.stretch.before (omega (arith, is.stretch.order, is.stretch.end)) first_there
+    module _ (is : Publishes Does saved) where
+      none_yet : NoneOurs b.history start is.since
+      none_yet = none_since Does nothing saved is
 
-    latest_last : (is : Publishes Does saved) → IsLatest (last_scene b)
-    latest_last is =
-        let later : start ≤ is.stretch.to = omega (arith, is.stretch.start, is.stretch.order) in
-        latest_until b is.stretch.to (only_later b start is.stretch.to later calm.others) (keeps_later others b start is.stretch.to later keep) b.history.last is.stretch.end is.stretch.behind (omega arith)
-        (is.is.latest (latest_got is))
+      start_since : start ≤ is.since
+      start_since = omega (arith, is.stretch.start, is.from)
 
-    module _ (is : Publishes Does saved) (firm : plan_of is.is.held ≡ a_way.Append → LeavesSound (last_scene a) × Does.fair b.history is.stretch.from) where
-      abbrev Own : Option (Result Table RecordFault) → Type 0
-      Own r = r ≡ Some (Ok is.is.found)
+      since_end : is.since ≤ b.history.last
+      since_end = omega (arith, is.upto, is.stretch.end)
 
-      latest_from : IsLatest (scene b is.stretch.from)
-      latest_from = latest_got is
+      start_to : start ≤ is.stretch.to
+      start_to = omega (arith, is.stretch.start, is.stretch.order)
 
-      known_from : (f : Files) → (scene b is.stretch.from).leaves f → IsKnown Own is.stretch.from (reading f)
-      known_from = known_before Own is.stretch.from is.stretch.start is.stretch.before (omega (arith, is.stretch.order, is.stretch.end))
+      latest_from : IsLatest (scene b is.since)
+      latest_from = latest_until b start calm.others keep is.since start_since none_yet since_end first_there
 
-      sound_from : LeavesSound (last_scene a) → LeavesSound (scene b is.stretch.from)
-      sound_from sound f left =
-          known_sound (λ r. ⊥) (λ r never. absurd never) sound is.stretch.from (omega (arith, is.stretch.order, is.stretch.end)) (reading f)
-          (known_before (λ r. ⊥) is.stretch.from is.stretch.start is.stretch.before (omega (arith, is.stretch.order, is.stretch.end)) f left)
+      latest_last : IsLatest (last_scene b)
+      latest_last =
+          latest_until b is.stretch.to (only_later b start is.stretch.to start_to calm.others) (keeps_later others b start is.stretch.to start_to keep) b.history.last is.stretch.end is.stretch.behind (omega arith)
+          (is.is.latest latest_from)
 
-      firm_from : plan_of is.is.held ≡ a_way.Append → IsFirm Does b is.stretch.from
-      firm_from way = let ground = firm way in record { solid = sound_solid (scene b is.stretch.from) (sound_from ground.0) latest_from; fair = ground.1 }
+      module _ (firm : plan_of is.is.held ≡ a_way.Append → LeavesSound (last_scene a) × Does.fair b.history is.since) where
+        abbrev Own : Option (Result Table RecordFault) → Type 0
+        Own r = r ≡ Some (Ok is.is.found)
 
-      known_by : (k : ℕ) (f : Files) → is.stretch.from ≤ k → ReadsAsBeforeOr (scene b is.stretch.from) (Some (Ok is.is.found)) f → IsKnown Own k (reading f)
-      known_by k f after (inl was) =
-          subst (IsKnown Own k) (sym was.2) (known_later Own is.stretch.from k (reading was.0) after (known_from was.0 was.1))
-      known_by k f after (inr own) = inr (inl own)
+        known_from : (f : Files) → (scene b is.since).leaves f → IsKnown Own is.since (reading f)
+        known_from = known_before Own is.since start_since none_yet since_end
 
-      known_within : (k : ℕ) → is.stretch.from ≤ k → k ≤ is.stretch.to → (f : Files) → (scene b k).leaves f → IsKnown Own k (reading f)
-      known_within k after upto f left = known_by k f after (is.is.crash latest_from firm_from k f after upto left)
+        sound_from : LeavesSound (last_scene a) → LeavesSound (scene b is.since)
+        sound_from sound f left =
+            known_sound (λ r. ⊥) (λ r never. absurd never) sound is.since since_end (reading f)
+            (known_before (λ r. ⊥) is.since start_since none_yet since_end f left)
 
-      known_to : (f : Files) → (scene b is.stretch.to).leaves f → IsKnown Own is.stretch.to (reading f)
-      known_to = known_within is.stretch.to is.stretch.order (omega arith)
+        firm_from : plan_of is.is.held ≡ a_way.Append → IsFirm Does b is.since
+        firm_from way = let ground = firm way in record { solid = sound_solid (scene b is.since) (sound_from ground.0) latest_from; fair = ground.1 }
 
-      known_each : (k : ℕ) (f : Files) → start ≤ k → k ≤ b.history.last → (scene b k).leaves f → IsKnown Own k (reading f)
-      known_each k f after within left = elim (cases_lt k is.stretch.from) [
-        | inl early ↦ known_before Own k after (none_before b start is.stretch.from k (omega (arith, early)) is.stretch.before) within f left
-        | inr late ↦ elim (cases_lt is.stretch.to k) [
-          | inl behind ↦
-              known_behind Own is.stretch.to k (omega (arith, is.stretch.start, is.stretch.order)) (omega (arith, behind))
-              (none_before b is.stretch.to b.history.last k within is.stretch.behind) within known_to f left
-          | inr upto ↦ known_within k late upto f left
+        known_by : (k : ℕ) (f : Files) → is.since ≤ k → ReadsAsBeforeOr (scene b is.since) (Some (Ok is.is.found)) f → IsKnown Own k (reading f)
+        known_by k f after (inl was) =
+            subst (IsKnown Own k) (sym was.2) (known_later Own is.since k (reading was.0) after (known_from was.0 was.1))
+        known_by k f after (inr own) = inr (inl own)
+
+        known_within : (k : ℕ) → is.since ≤ k → k ≤ is.stretch.to → (f : Files) → (scene b k).leaves f → IsKnown Own k (reading f)
+        known_within k after upto f left = known_by k f after (is.is.crash latest_from firm_from k f after upto left)
+
+        known_to : (f : Files) → (scene b is.stretch.to).leaves f → IsKnown Own is.stretch.to (reading f)
+        known_to = known_within is.stretch.to is.upto (omega arith)
+
+        known_each : (k : ℕ) (f : Files) → start ≤ k → k ≤ b.history.last → (scene b k).leaves f → IsKnown Own k (reading f)
+        known_each k f after within left = elim (cases_lt k is.since) [
+          | inl early ↦ known_before Own k after (none_before b start is.since k (omega (arith, early)) none_yet) within f left
+          | inr late ↦ elim (cases_lt is.stretch.to k) [
+            | inl behind ↦
+                known_behind Own is.stretch.to k start_to (omega (arith, behind))
+                (none_before b is.stretch.to b.history.last k within is.stretch.behind) within known_to f left
+            | inr upto ↦ known_within k late upto f left
+          ]
         ]
-      ]
 
     -- no docket that a crash might leave is ahead at the end, upon whatever ground the call appended
     pub latest_safe : (fault : Option Fault) → IsSafe Does saved fault → IsLatest (last_scene b)
-    latest_safe fault (inl none) = latest_until b start calm.others keep b.history.last goes.past.later none.none (omega arith) first_there
+    latest_safe fault (inl only) = latest_until b start calm.others keep b.history.last goes.past.later (unwritten_only Does.may nothing saved only).none (omega arith) first_there
     latest_safe fault (inr (may, is)) = latest_last is
 
     pub crash_safe : (fault : Option Fault) (safe : IsSafe Does saved fault) → IsFirmFor Does saved fault safe → IsCrashSafe (published_in Does saved fault safe) saved
-    crash_safe fault (inl none) firm =
+    crash_safe fault (inl only) firm =
+        let none : IsUnwritten a.history b.history = unwritten_only Does.may nothing saved only in
         let known : (k : ℕ) (f : Files) → start ≤ k → k ≤ b.history.last → (scene b k).leaves f → IsKnown (λ r. ⊥) k (reading f) =
         λ k f after within left. known_before (λ r. ⊥) k after (none_before b start b.history.last k within none.none) within f left in
         record {
@@ -141,14 +153,14 @@ module _ (a b : Course) (goes : Goes a b) (calm : Undisturbed a b) (keep : Keeps
     crash_safe fault (inr (may, is)) firm = record {
       each = known_each is firm;
       sound = λ sound k after within f left. known_sound (Own is firm) (λ r own. (is.is.found, own)) sound k within (reading f) (known_each is firm k f after within left);
-      orderly = keeps_front us b start is.stretch.from is.stretch.before (is.is.orderly (latest_from is firm) (firm_from is firm));
-      keeping = used_front us b.history start is.stretch.from is.stretch.before (is.is.keeping (λ way. (firm way).1));
+      orderly = keeps_front us b start is.since (none_yet is) (is.is.orderly (latest_from is) (firm_from is firm));
+      keeping = used_front us b.history start is.since (none_yet is) (is.is.keeping (λ way. (firm way).1));
       latest = latest_last is;
     }
 
   -- also where the caller makes no step
   pub crash_unwritten : IsUnwritten a.history b.history → IsLatest (last_scene a) → IsCrashSafe None saved
-  crash_unwritten none first = crash_safe (record { does = λ old new lines changed. ⊥; stops = λ loaded fault. ⊥; fair = λ h at. ⊥ }) first None (inl none) tt
+  crash_unwritten none first = crash_safe makes_nothing (λ before behind may. may) first None (inl (inl none)) tt
 
   lasts_by : (stood : Stood) (loaded made : Table) (stretch : Stretch a.history b.history) (kept : IsKept stood loaded made saved stretch.from stretch.to)
       → (((c : Files) → (scene b stretch.to).leaves c → reading c ≡ Some (Ok kept.found)) ⊎ (IsSame made loaded × IsUnwritten a.history b.history))

@@ -13,9 +13,12 @@ use Rattle.hg_ops.specs.declared.copy_refusal.CopyRefusal.{CopyRefusal}
 use Rattle.hg_ops.specs.declared.refusal.OpFault.{OpFault}
 use Rattle.hg_ops.specs.declared.refusal.OpFault.TheVariants as an_op
 use Rattle.hg_ops.proofs.Added.{same_table}
-use Rattle.hg_session.specs.Acts.{ActsOn, IsActed, IsCopied, IsNothingMade, IsRemoved, IsTreeFault, NeedsSome, OnlyLooks, OnlyPuts, OnlyTakes, StopsRemoving, name, span_of, steps_of}
+use Rattle.hg_report.specs.Cause.{of_op}
+use Rattle.hg_session.specs.Acts.{ByOp, IsActed, IsCopied, IsNothingMade, IsRemoved, IsTreeFault, NeedsSome, OnlyLooks, OnlyPuts, OnlyTakes, StopsRemoving, name, span_of, steps_of}
+use Rattle.hg_session.specs.Acting.{ActsOn}
 use Rattle.hg_session.specs.Call.{IsLeftAlone, Watched}
 use Rattle.hg_session.specs.Kept.{KeepsLent}
+use Rattle.hg_session.specs.Told.{OnlyRefuses, refusing}
 use Rattle.hg_session.specs.Manifests.{AsksManifests, IsReparented, StopsParents}
 use Rattle.hg_session.specs.declared.acting.Changing.TheVariants as a_change
 use Rattle.hg_shelf.specs.History as shelf
@@ -59,6 +62,17 @@ same_if : (Does : Table → Table → List ℕ → Bool → Type 0) → ((old ne
 same_if Does same old new (Ok lines) does unset = λ still. same (table old) (table new) lines.items new.changed (does unset) still
 same_if Does same old new (Err fault) does unset = tt
 
+-- what was made so with these lines was with these refusals, and nothing else was told
+refuses_ok : (Does : Table → Table → List ℕ → Bool → Type 0) (old new : Held) (result : Result (Vec ℕ Global) OpFault) → (old.changed ≡ false → IfOk result (λ lines. Does (table old) (table new) lines.items new.changed))
+    → old.changed ≡ false → IfOk result (λ lines. OnlyRefuses (λ said. Does (table old) (table new) said new.changed) (refusing lines.items))
+refuses_ok Does old new (Ok lines) does unset = record { unprinted = refl; unwarned = refl; lines = does unset }
+refuses_ok Does old new (Err fault) does unset = tt
+
+-- a fault of an operation, as a command tells it
+stops_err : {A : Type 0} (Stops : OpFault → Type 0) (result : Result A OpFault) → IfErr result Stops → IfErr result (λ fault. ByOp Stops (of_op fault))
+stops_err Stops (Ok done) stops = tt
+stops_err Stops (Err fault) stops = (fault, refl, stops)
+
 -- ---- a command that reads nothing below `.hg`
 
 module _ (copy : Watched tree.History) (h : shelf.History) (count : ℕ) (old new : Held) (result : Result (Vec ℕ Global) OpFault) (kind : IfErr result IsTreeFault) (image : IsOfSameImage old new)
@@ -70,8 +84,8 @@ module _ (copy : Watched tree.History) (h : shelf.History) (count : ℕ) (old ne
       → (old.changed ≡ false → IfOk result (λ lines. IsActed (name a_change.Add) (steps_of a_change.Add) words copy (table old) (table new) lines.items new.changed))
       → OnOk result (KeepsLent old new) → OnlyLooks copy → ActsOn command copy still old new result
   acts_add command words is does lent changes = subst (λ (c : Command). ActsOn c copy still old new result) (sym is) (record {
-    does = does;
-    stops = λ unset. kind;
+    does = refuses_ok (IsActed (name a_change.Add) (steps_of a_change.Add) words copy) old new result does;
+    stops = λ unset. stops_err IsTreeFault result kind;
     same = same_if (IsActed (name a_change.Add) (steps_of a_change.Add) words copy) (λ a b lines changed acted. acted.same) old new result does;
     lent = lent;
     image = image;
@@ -87,8 +101,8 @@ module _ (copy : Watched tree.History) (h : shelf.History) (count : ℕ) (old ne
       → (old.changed ≡ false → IfOk result (λ lines. IsActed (name a_change.Forget) (steps_of a_change.Forget) words copy (table old) (table new) lines.items new.changed))
       → OnOk result (KeepsLent old new) → IsLeftAlone copy → ActsOn command copy still old new result
   acts_forget command words is forgets does lent alone = subst (λ (c : Command). ActsOn c copy still old new result) (sym is) (record {
-    does = does;
-    stops = λ unset. forgets;
+    does = refuses_ok (IsActed (name a_change.Forget) (steps_of a_change.Forget) words copy) old new result does;
+    stops = λ unset. stops_err (λ fault. fault ≡ an_op.OutOfMemory) result forgets;
     same = same_if (IsActed (name a_change.Forget) (steps_of a_change.Forget) words copy) (λ a b lines changed acted. acted.same) old new result does;
     lent = lent;
     image = image;
@@ -104,8 +118,8 @@ module _ (copy : Watched tree.History) (h : shelf.History) (count : ℕ) (old ne
       → (old.changed ≡ false → IfOk result (λ line. IsCopied source target copy (table old) (table new) line.items new.changed))
       → OnOk result (KeepsLent old new) → OnlyPuts source target (table old) copy → ActsOn command copy still old new result
   acts_copy command source target is does lent puts = subst (λ (c : Command). ActsOn c copy still old new result) (sym is) (record {
-    does = does;
-    stops = λ unset. kind;
+    does = refuses_ok (IsCopied source target copy) old new result does;
+    stops = λ unset. stops_err IsTreeFault result kind;
     same = same_if (IsCopied source target copy) (λ a b lines changed acted. acted.same) old new result does;
     lent = lent;
     image = image;
@@ -126,8 +140,8 @@ pub acts_remove : (copy : Watched tree.History) (files : Watched shelf.History) 
     → (IsTrue files.old.told → (files.new.asked ≡ files.old.asked) ⊎ (NeedsSome after words (table old) copy × AsksStore (span_of (table old) files.old files.new))) → HasCause copy.before copy.after result (λ e. e ≡ an_op.TreeFailed)
     → (copy.before < copy.after → result ≡ Err an_op.TreeFailed) → HasCause files.before files.after result (λ e. e ≡ an_op.ShelfFailed) → ActsOn command copy files old new result
 acts_remove copy files old new result command after words is does stops lent image takes passes asked cause failed shelf_cause = subst (λ (c : Command). ActsOn c copy files old new result) (sym is) (record {
-  does = does;
-  stops = stops;
+  does = refuses_ok (IsRemoved after words copy files) old new result does;
+  stops = λ unset. stops_err (StopsRemoving after words copy files (table old)) result (stops unset);
   same = same_if (IsRemoved after words copy files) (λ a b lines changed acted. acted.acted.same) old new result does;
   lent = lent;
   image = image;
@@ -149,8 +163,8 @@ module _ (h : tree.History) (count : ℕ) (files : Watched shelf.History) (old n
       → (IsTrue files.old.told → AsksManifests p1 p2 files.old files.new) → HasCause files.before files.after result (λ e. e ≡ an_op.ShelfFailed)
       → IfErr result (λ e. e ≡ an_op.TreeFailed → ⊥) → ActsOn command alone files old new result
   acts_parents command p1 p2 is does stops lent image passes asked shelf_cause kind = subst (λ (c : Command). ActsOn c alone files old new result) (sym is) (record {
-    does = does;
-    stops = λ unset. stops;
+    does = refuses_ok (IsReparented p1 p2 files) old new result does;
+    stops = λ unset. stops_err (StopsParents p1 p2 files) result stops;
     same = same_if (IsReparented p1 p2 files) (λ a b lines changed acted. acted.same) old new result does;
     lent = lent;
     image = image;
@@ -182,7 +196,7 @@ module _ (h : tree.History) (count : ℕ) (files : shelf.History) (counted : ℕ
   acts_nothing (a_command.Copy source target) add forget remove copy parents = absurd (copy source target refl)
   acts_nothing (a_command.SetParents p1 p2) add forget remove copy parents = absurd (parents p1 p2 refl)
   acts_nothing command add forget remove copy parents = record {
-    does = nothing;
+    does = λ unset. record { unprinted = refl; unwarned = refl; lines = nothing unset };
     stops = λ unset. tt;
     same = λ unset still. same_table (table held);
     lent = record { lists = λ dir same. refl; texts = record { texts = λ at had has. refl; sources = λ at source had has. refl } };

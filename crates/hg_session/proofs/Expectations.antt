@@ -42,7 +42,8 @@ use Rattle.hg_session.specs.Load.{of_read}
 use Rattle.hg_session.specs.Loaded.{IsLoaded, IsUnreadable}
 use Rattle.hg_session.specs.Look.{LeavesAt, LeftBySaving, Look, Concludes, Order, Stage, at_first, at_printing, at_saving, at_telling, saves_first, saves_last}
 use Rattle.hg_session.specs.Put.{LeavesFront, Puts, Tells}
-use Rattle.hg_session.specs.Status.{HasBadManifest, HasBadPatterns, IsExpected, IsFullText, IsReady, IsRowsText, IsWorked, LacksContents, ListingCause, status_look}
+use Rattle.hg_session.specs.Status.{HasBadManifest, HasBadPatterns, IsExpected, IsFullText, IsReady, IsWorked, LacksContents, ListingCause, SaysRows, status_look}
+use Rattle.hg_session.specs.Told.{Told}
 use Rattle.hg_session.specs.declared.read_fault.ReadFault.{ReadFault}
 use Rattle.hg_session.specs.declared.read_fault.ReadFault.TheVariants as a_read
 use Rattle.hg_session.proofs.Causes.{asked_now, gone_now, holds_now, large_now, read_now, shows_now}
@@ -61,17 +62,16 @@ pub grown_whole : (old new : Option (List ℕ)) (text : List ℕ) → Grown old 
 grown_whole old new text grown = ([], record { front = text; parts = sym (append-nil text); grown = grown })
 
 -- what stands in a sink after a fault, as a front of a text
-pub front_by : (IsText Own : List ℕ → Type 0) → ((text : List ℕ) → IsText text → Own text) → (look : Look) → ((text : List ℕ) → look.Text text → IsText text) → (out err : Sink) (fault : Fault)
-    → (stage : Stage) × LeavesAt look out err Tells stage fault → LeavesFront Own out
-front_by IsText Own own look is out err fault (at_first, (before, silent, line)) = inl silent.bytes
-front_by IsText Own own look is out err fault (at_printing, (printing, ready, front, kind, line)) = inr (front.text, own front.text (is front.text front.is), front.put)
-front_by IsText Own own look is out err fault (at_telling, (telling, ready, puts, front, kind)) =
-    inr (puts.text, own puts.text (is puts.text puts.is), grown_whole out.old out.new puts.text puts.put)
-front_by IsText Own own look is out err fault (at_saving, (saving, left)) = by_order look.order left
+pub front_by : (Own : List ℕ → Type 0) (look : Look) → ((said : Told) → look.Says said → Own said.printed) → (out err : Sink) (fault : Fault) → (stage : Stage) × LeavesAt look out err Tells stage fault → LeavesFront Own out
+front_by Own look own out err fault (at_first, (before, silent, line)) = inl silent.bytes
+front_by Own look own out err fault (at_printing, (printing, ready, front, kind, line)) = inr (front.text, subst Own (sym front.is.is) (own front.is.said front.is.says), front.put)
+front_by Own look own out err fault (at_telling, (telling, ready, all, kind)) =
+    inr (all.printed.text, subst Own (sym all.printed.is) (own all.said all.says), grown_whole out.old out.new all.printed.text all.printed.put)
+front_by Own look own out err fault (at_saving, (saving, left)) = by_order look.order left
   where
     by_order : (order : Order) → LeftBySaving order look out err Tells fault → LeavesFront Own out
     by_order saves_first (silent, line) = inl silent.bytes
-    by_order saves_last (ready, puts, behind) = inr (puts.text, own puts.text (is puts.text puts.is), grown_whole out.old out.new puts.text puts.put)
+    by_order saves_last (ready, all) = inr (all.printed.text, subst Own (sym all.printed.is) (own all.said all.says), grown_whole out.old out.new all.printed.text all.printed.put)
 
 -- ---- where nobody else steps
 
@@ -230,9 +230,9 @@ module _ (looked : Looked) (copy : tree.Passes looked.tree.old looked.tree.new) 
     rows_own None loaded right rows is = absurd is
     rows_own (Some table) loaded right rows is = listed_own table loaded right rows is
 
-  text_own : (flags : StatusFlags) (table : Option Table) → IfSome table (IsLoaded looked.shelf) → IfSome table (IsRightFor looked) → (text : List ℕ) → IsRowsText flags looked table text
-      → IsFullText flags there (tree.now looked.tree.old) text
-  text_own flags table loaded right text is = record { rows = is.rows; listing = rows_own (wanted_of flags) table loaded right is.rows is.listing; is = is.is }
+  text_own : (flags : StatusFlags) (table : Option Table) → IfSome table (IsLoaded looked.shelf) → IfSome table (IsRightFor looked) → (said : Told) → SaysRows flags looked table said
+      → IsFullText flags there (tree.now looked.tree.old) said.printed
+  text_own flags table loaded right said is = record { rows = is.rows; listing = rows_own (wanted_of flags) table loaded right is.rows is.listing; is = is.printed }
 
 -- ---- the command
 
@@ -248,7 +248,7 @@ module _ (flags : StatusFlags) (looked : Looked) (saved : Saved) (locks : Count)
       → Serves looked.tree → Serves looked.shelf → Serves out → Serves err → Expected (Some fault)
   left_expected own fault (at_first, ((only, why), silent, line)) p q r w = listing_expected looked copy files own (wanted_of flags) table loaded fault why p q
   left_expected own fault (at_printing, (printing, ready, front, kind, line)) p q r w = absurd (steady_not_rose out.before out.after r front.failed)
-  left_expected own fault (at_telling, (telling, ready, puts, front, is)) p q r w = absurd (steady_not_rose err.before err.after w front.failed)
+  left_expected own fault (at_telling, (telling, ready, all, is)) p q r w = absurd (steady_not_rose err.before err.after w all.behind.failed)
   left_expected own fault (at_saving, (inl (failed, is), left)) p q r w = absurd (steady_not_rose looked.shelf.before looked.shelf.after q failed)
   left_expected own fault (at_saving, (inr (is, none), left)) p q r w = subst (λ (f : Fault). Expected (Some f)) (sym is) tt
 
@@ -259,10 +259,11 @@ module _ (flags : StatusFlags) (looked : Looked) (saved : Saved) (locks : Count)
 
   pub whole_own : (fault : Option Fault) → Concludes (status_look flags looked saved locks table notes) out err fault → fault ≡ None → IsOwn looked → IfSome table (IsRightFor looked) → Puts Full out
   whole_own fault looks none own right =
-      let printed = (looks.done none).printed in
-      record { text = printed.text; is = text_own looked copy files own flags table loaded right printed.text printed.is; put = printed.put; calm = printed.calm }
+      let shown = looks.done none in
+      let printed = shown.printed in
+      record { text = printed.text; is = subst Full (sym printed.is) (text_own looked copy files own flags table loaded right shown.said shown.says); put = printed.put; calm = printed.calm }
 
   pub front_own : (fault : Option Fault) → Concludes (status_look flags looked saved locks table notes) out err fault → IsOwn looked → IfSome table (IsRightFor looked) → IfSome fault (λ _. LeavesFront Full out)
   front_own None looks own right = tt
   front_own (Some fault) looks own right =
-      front_by (IsRowsText flags looked table) Full (text_own looked copy files own flags table loaded right) (status_look flags looked saved locks table notes) (λ text is. is) out err fault looks.left
+      front_by Full (status_look flags looked saved locks table notes) (text_own looked copy files own flags table loaded right) out err fault looks.left

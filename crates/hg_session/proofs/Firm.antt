@@ -7,15 +7,18 @@ use Rattle.hg_save.specs.Others.{HasData, KeepData, KeepsRecords}
 use Rattle.hg_save.proofs.Spans.{keep_used}
 use Rattle.hg_save.specs.Behind.{IsKeepingUsed, KeepsUsed}
 use Rattle.hg_save.specs.Saved.{IsLatest}
+use Rattle.hg_session.proofs.Crashes.{crash_safe}
 use Rattle.hg_session.proofs.GoodParts.{from_moment}
+use Rattle.hg_session.proofs.Makers.{none_since}
+use Rattle.hg_session.proofs.OwnTables.{IsFirmFor, own_of, published_in}
 use Rattle.hg_session.proofs.UsedSteps.{used_shorter, using_itself}
 use Rattle.hg_session.specs.Acts.{Makes}
 use Rattle.hg_session.specs.Call.{Saved, Watched}
 use Rattle.hg_session.specs.Change.{IsSafe, NoneOurs, up_to}
-use Rattle.hg_session.specs.Crash.{IsFirmFor, IsFirmGround, IsSafeBy, IsSafeFromCrashes}
+use Rattle.hg_session.specs.Crash.{Appends, IsFirmGround, IsSafeBy, IsSafeFromCrashes}
 use Rattle.hg_session.specs.Status.{noted_in}
 use Rattle.hg_shelf.specs.History.{History, Who, others, readers, us}
-use Rattle.hg_shelf.specs.Images.{Course, Goes, last_scene}
+use Rattle.hg_shelf.specs.Images.{Course, Goes, Scene, last_scene}
 use Rattle.hg_shelf.specs.Polite.{Undisturbed}
 use Rattle.hg_walk.specs.Notes.{NotesData}
 
@@ -34,19 +37,31 @@ kept_upto a b goes calm there used k later within none =
           subst (IsKeepingUsed (files_at b.history j)) (sym (calm.others.same j after (omega (arith, before, within)) who).shown) (using_itself (files_at b.history j));
     }
 
-module _ (a b : Course) (ground : IsFirmGround (record { old = a; new = b })) where
-  pub firm_for : (Does : Makes) (fault : Option Fault) (safe : IsSafe Does (record { old = a; new = b }) fault)
-      → ((k : ℕ) → a.history.last ≤ k → k ≤ b.history.last → NoneOurs b.history a.history.last k → Does.fair b.history k) → IsFirmFor Does (record { old = a; new = b }) fault safe
-  firm_for Does fault (inl none) fair = tt
-  firm_for Does fault (inr (may, is)) fair =
-      λ way. (ground.sound, fair is.stretch.from is.stretch.start (omega (arith, is.stretch.order, is.stretch.end)) is.stretch.before)
+pub noted_upto : (a b : Course) (ground : IsFirmGround (record { old = a; new = b })) (files : Watched History) → files.old.last ≡ a.history.last → (table : Option Table) (notes : NotesData) (k : ℕ)
+    → a.history.last ≤ k → k ≤ b.history.last → NoneOurs b.history a.history.last k → (noted_in files table notes).fair b.history k
+noted_upto a b ground files same None notes k later within none = tt
+noted_upto a b ground files same (Some t) notes k later within none = subst (KeepData (up_to k b.history)) (sym same) (ground.kept k later within none)
 
-  pub noted_upto : (files : Watched History) → files.old.last ≡ a.history.last → (table : Option Table) (notes : NotesData) (k : ℕ) → a.history.last ≤ k → k ≤ b.history.last
-      → NoneOurs b.history a.history.last k → (noted_in files table notes).fair b.history k
-  noted_upto files same None notes k later within none = tt
-  noted_upto files same (Some t) notes k later within none = subst (KeepData (up_to k b.history)) (sym same) (ground.kept k later within none)
+module _ (saved : Saved) (Does : Makes) (nothing : (before behind : Scene) → Does.may before behind → ⊥)
+    (fair : IsFirmGround saved → (k : ℕ) → saved.old.history.last ≤ k → k ≤ saved.new.history.last → NoneOurs saved.new.history saved.old.history.last k → Does.fair saved.new.history k) where
+  -- what is asked besides holds where the call appended
+  firm_for : (fault : Option Fault) (safe : IsSafe Does saved fault) → (Appends Does saved → IsFirmGround saved) → IsFirmFor Does saved fault safe
+  firm_for fault (inl only) ground = tt
+  firm_for fault (inr (may, is)) ground = λ way.
+      let firm : IsFirmGround saved = ground (is, way) in
+      (firm.sound, fair firm is.since (omega (arith, is.stretch.start, is.from)) (omega (arith, is.upto, is.stretch.end)) (none_since Does nothing saved is))
 
--- so a call is safe from crashes upon such ground
+-- so it leaves no record but what it should
+pub safe_from : (saved : Saved) (goes : Goes saved.old saved.new) (Does : Makes) (nothing : (before behind : Scene) → Does.may before behind → ⊥)
+    (fair : IsFirmGround saved → (k : ℕ) → saved.old.history.last ≤ k → k ≤ saved.new.history.last → NoneOurs saved.new.history saved.old.history.last k → Does.fair saved.new.history k)
+    (fault : Option Fault) → (Undisturbed saved.old saved.new → IsSafe Does saved fault) → IsSafeFromCrashes Does saved
+safe_from saved goes Does nothing fair fault safe calm keep first ground = (
+  published_in Does saved fault (safe calm),
+  own_of Does saved fault (safe calm),
+  crash_safe saved.old saved.new goes calm keep Does nothing first fault (safe calm) (firm_for saved Does nothing fair fault (safe calm) ground),
+)
+
+-- and so it is upon such ground, whatever it wrote
 pub safe_upon : (Does : Makes) (saved : Saved) → IsSafeFromCrashes Does saved → Undisturbed saved.old saved.new → KeepsRecords others saved.new saved.old.history.last → IsLatest (last_scene saved.old) → IsFirmGround saved
     → IsSafeBy Does saved
-safe_upon Does saved crash calm keep latest ground = crash calm keep latest ground
+safe_upon Does saved crash calm keep latest ground = crash calm keep latest (λ appends. ground)

@@ -13,10 +13,12 @@ use Rattle.hg_save.specs.Leads.{IsHeld}
 use Rattle.hg_session.proofs.Widening.{calm_within, done_met, done_wide, held_stretch, met_wide, safe_wide, unwritten_wide}
 use Rattle.hg_session.specs.Acts.{Makes}
 use Rattle.hg_session.specs.Call.{Count, Saved, Watched}
-use Rattle.hg_session.specs.Change.{FailsOrUnwritten, IsDone, IsLocked, IsSafe, IsSafeHeld, MetChanging, MetLocking, Stretch, fault_of, of_change, once_freed}
+use Rattle.hg_session.specs.Change.{IsDone, IsLocked, IsSafe, MetChanging, MetLocking, Stretch, of_change}
+use Rattle.hg_session.specs.Changing.{FailsOrUnwritten, IsSafeHeld, fault_of, once_freed}
 use Rattle.hg_shelf.specs.History.{History, Waits}
 use Rattle.hg_shelf.specs.Images.{Course, Goes}
 use Rattle.hg_session.specs.Locks.{TakenAt}
+use Rattle.hg_session.specs.Told.{refusing}
 use Rattle.hg_session.proofs.Locks.{not_returned_by, returned_by}
 use Rattle.hg_shelf.specs.Lock.{IsNoted, Locks, NotesUnlock, Unlocks}
 use Rattle.hg_shelf.specs.declared.asked.LockAnswer.TheVariants as an_answer
@@ -61,18 +63,18 @@ module _ (a b c d : Course) (lock : Waits a.history b.history) (unlock : Waits c
   abbrev outer : Saved
   outer = record { old = a; new = d }
 
-  pub once_done : (done : Result (Vec ℕ Global) ChangeFault) (freed : Result Unit Failed) → IfOk done (λ lines. IsDone Part part inner b.history.last c.history.last lines.items)
-      → IfOk (once_freed done freed) (λ lines. (stretch : Stretch a.history d.history) × IsDone Whole whole outer stretch.from stretch.to lines.items)
+  pub once_done : (done : Result (Vec ℕ Global) ChangeFault) (freed : Result Unit Failed) → IfOk done (λ lines. IsDone Part part inner b.history.last c.history.last (refusing lines.items))
+      → IfOk (once_freed done freed) (λ lines. (stretch : Stretch a.history d.history) × IsDone Whole whole outer stretch.from stretch.to (refusing lines.items))
   once_done (Err fault) freed is = tt
   once_done (Ok lines) (Err failed) is = tt
-  once_done (Ok lines) (Ok unit) is = (held_stretch a b c d lock unlock p q r taken held, done_wide a b c d lock unlock p q r taken held Part Whole wide copy before after start end lines.items is)
+  once_done (Ok lines) (Ok unit) is = (held_stretch a b c d lock unlock p q r taken held, done_wide a b c d lock unlock p q r taken held Part Whole wide copy before after start end (refusing lines.items) is)
 
-  pub once_met : (locks : Count) (done : Result (Vec ℕ Global) ChangeFault) (freed : Result Unit Failed) → before ≡ start → before ≤ after → IfOk done (λ lines. IsDone Part part inner b.history.last c.history.last lines.items)
+  pub once_met : (locks : Count) (done : Result (Vec ℕ Global) ChangeFault) (freed : Result Unit Failed) → before ≡ start → before ≤ after → IfOk done (λ lines. IsDone Part part inner b.history.last c.history.last (refusing lines.items))
       → IfErr done (MetChanging Part copy part) → HasCause after end freed (λ e. Unit {0}) → IfErr (once_freed done freed) (MetLocking Whole copy whole locks)
   once_met locks (Err fault) freed same later is met cause =
       inl (met_wide a b c d lock unlock p q r taken held Part Whole wide copy before after start end fault (λ rose. rose_first start before after end same cause.later rose) met)
   once_met locks (Ok lines) (Err failed) same later is met cause =
-      inl (rose_last start before after end same later (cause.rose tt), inr (done_met a b c d lock unlock p q r taken held Part Whole wide copy before after start end (record { made = is.made; lines = lines.items; changed = is.changed; is = is.is })))
+      inl (rose_last start before after end same later (cause.rose tt), inr (done_met a b c d lock unlock p q r taken held Part Whole wide copy before after start end (record { made = is.made; said = refusing lines.items; changed = is.changed; is = is.is })))
   once_met locks (Ok lines) (Ok unit) same later is met cause = tt
 
   pub once_unwritten : (done : Result (Vec ℕ Global) ChangeFault) (freed : Result Unit Failed) → IfErr done (FailsOrUnwritten b.history c.history) → IfErr (once_freed done freed) (FailsOrUnwritten a.history d.history)
@@ -84,7 +86,7 @@ module _ (a b c d : Course) (lock : Waits a.history b.history) (unlock : Waits c
   once_safe_in : (done : Result (Vec ℕ Global) ChangeFault) (freed : Result Unit Failed) → IsSafeHeld Part inner (fault_of done) → IsSafe Whole outer (fault_of (once_freed done freed))
   once_safe_in (Err fault) freed safe = safe_wide a b c d lock unlock p q r taken held Part Whole wide copy before after start end (Some (of_change fault)) safe
   once_safe_in (Ok lines) (Err failed) safe = elim (safe_wide a b c d lock unlock p q r taken held Part Whole wide copy before after start end None safe) [
-    | inl none ↦ inl none
+    | inl only ↦ inl only
     | inr is ↦ inr (inl refl, is.1)
   ]
   once_safe_in (Ok lines) (Ok unit) safe = safe_wide a b c d lock unlock p q r taken held Part Whole wide copy before after start end None safe
@@ -111,7 +113,7 @@ module _ (a b c d : Course) (lock : Waits a.history b.history) (unlock : Waits c
   shelf_rose a_change_fault.ShelfFailed is met = met.0
 
   pub once_locked : (locks : Count) (done : Result (Vec ℕ Global) ChangeFault) (freed : Result Unit Failed) → before ≡ start → before ≤ after → locks.after ≡ locks.before
-      → IfOk done (λ lines. IsDone Part part inner b.history.last c.history.last lines.items)
+      → IfOk done (λ lines. IsDone Part part inner b.history.last c.history.last (refusing lines.items))
       → IfErr done (MetChanging Part copy part) → HasCause after end freed (λ e. Unit {0}) → Unlocks c.history.ours d.history.ours freed → (IsTrue c.history.told → NotesUnlock c.history d.history freed)
       → IsLocked Whole copy whole outer locks (fault_of (once_freed done freed))
   once_locked locks done (Ok unit) counted later uncounted is met cause free unlocked = inr (inr (inl (record {
@@ -123,7 +125,7 @@ module _ (a b c d : Course) (lock : Waits a.history b.history) (unlock : Waits c
     told = λ told. not_returned_by a.history b.history c.history d.history p.past q.past r.past (noted told) same (unlocked (q.past.told ∙ p.past.told ∙ told));
     uncounted = uncounted;
     failed = rose_last start before after end counted later (cause.rose tt);
-    first = inr (
+    besides = inr (
       fault,
       inl refl,
       met_wide a b c d lock unlock p q r taken held Part Whole wide copy before after start end fault (λ rose. rose_first start before after end counted cause.later rose) met,
@@ -134,11 +136,11 @@ module _ (a b c d : Course) (lock : Waits a.history b.history) (unlock : Waits c
     told = λ told. not_returned_by a.history b.history c.history d.history p.past q.past r.past (noted told) same (unlocked (q.past.told ∙ p.past.told ∙ told));
     uncounted = uncounted;
     failed = rose_last start before after end counted later (cause.rose tt);
-    first = inl (
+    besides = inl (
       inl refl,
       held_stretch a b c d lock unlock p q r taken held,
-      lines.items,
-      done_wide a b c d lock unlock p q r taken held Part Whole wide copy before after start end lines.items is,
+      refusing lines.items,
+      done_wide a b c d lock unlock p q r taken held Part Whole wide copy before after start end (refusing lines.items) is,
     );
   })))
 

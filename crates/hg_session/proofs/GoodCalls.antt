@@ -1,6 +1,6 @@
 -- Each command leads from good records to good ones.
 use Rattle.std.proofs.Common.{ℕ, ◌≡◌, ◌≤◌, Bool, List, [], ◌∷◌, Option, Some, None, Ok, sym, ◌∙◌, subst, arith, inl, inr}
-use Rattle.std.specs.Prelude.{IfSome, IsTrue}
+use Rattle.std.specs.Prelude.{IfSome, IsSomeAnd, IsTrue}
 use Rattle.hg_compare.specs.Tracked.{ParentRow}
 use Rattle.hg_entry.specs.Steps.{seen_clean}
 use Rattle.hg_entry.specs.Table.{Table}
@@ -11,21 +11,21 @@ use Rattle.hg_save.specs.Others.{HasData, KeepData}
 use Rattle.hg_save.specs.Record.{reading}
 use Rattle.hg_flat.proofs.Arriving.{there_stays}
 use Rattle.hg_session.proofs.Longer.{right_by_end}
-use Rattle.hg_session.specs.Acts.{AllSteps, ChangesTree, Deed, Makes, Stepping, TakesAway, makes_nothing, makes_of, span_of, steps_of}
-use Rattle.hg_session.specs.Answered.{IsAnswered}
+use Rattle.hg_session.specs.Acts.{AllSteps, ChangesTree, Deed, Stepping, TakesAway, makes_nothing, makes_of, span_of, steps_of}
+use Rattle.hg_session.specs.Answered.{IsAnswered, Ran, made_by}
 use Rattle.hg_session.specs.Call.{Call, Count, IsLeftAlone, Looked, Saved, Sink, Watched}
-use Rattle.hg_session.specs.Change.{ChangesBehind, IsUnwritten, NoneOurs, up_to}
-use Rattle.hg_session.specs.Changed.{RanChange}
+use Rattle.hg_session.specs.Change.{ChangesBehind, Come, IsUnwritten, NoneOurs, come_so, up_to}
 use Rattle.hg_session.specs.Crash.{IsFirmGround, IsSafeFromCrashes}
 use Rattle.hg_session.specs.Good.{IsFair, IsGoodGround, IsGoodIn, KeepsGood, OthersKeepStood, ReadsRight, StaysGood}
-use Rattle.hg_session.specs.Status.{AreEarnedFor, RanStatus, noted_in}
+use Rattle.hg_session.specs.Status.{AreEarnedFor, noted_in}
+use Rattle.hg_session.specs.Told.{Told}
 use Rattle.hg_session.specs.declared.acting.Changing.TheVariants as a_change
 use Rattle.hg_session.proofs.Crashes.{crash_unwritten}
 use Rattle.hg_session.proofs.Firm.{safe_upon}
 use Rattle.hg_session.proofs.GoodParents.{reparented_good}
 use Rattle.hg_session.proofs.GoodStays.{before, good_by, good_stays, one_table}
 use Rattle.hg_session.proofs.GoodParts.{stood_upto}
-use Rattle.hg_session.proofs.Makers.{asks_none}
+use Rattle.hg_session.proofs.Makers.{asks_none, may_note_nothing, may_nothing}
 use Rattle.hg_session.proofs.GoodTables.{KeepsTable, added_keeps, copied_keeps, forgotten_keeps, noted_good, table_good, table_same, table_through}
 use Rattle.hg_shelf.specs.History as shelf
 use Rattle.hg_shelf.specs.Images.{Goes, Images, course, last_scene}
@@ -38,7 +38,6 @@ use Rattle.hg_walk.proofs.Parts.{trusted_are_right}
 use Rattle.hg_walk.specs.Notes.{AreEarned, NotesData, with_hash}
 use Rattle.hg_walk.specs.Trust.{IsTrusted}
 use Rattle.hg_walk.specs.Walking.{rows_in}
-use Rattle.hg_words.specs.declared.flags.StatusFlags.{StatusFlags}
 use Rattle.hg_words.specs.declared.given.Command.{Command}
 use Rattle.hg_words.specs.declared.given.Command.TheVariants as a_command
 
@@ -63,17 +62,17 @@ each_taken gone t from to before after word old refused new is = forgotten_keeps
 
 module _ (copy : Watched tree.History) (files : Watched shelf.History) (store : shelf.Files) (past : shelf.Extends files.old files.new) (told : IsTrue files.old.told) (plain : StaysPlain store files.new files.old.last) where
   -- what a command makes of a good record is good
-  pub made_good : (command : Command) (h : tree.History) (loaded made : Table) (lines : List ℕ) (changed : Bool) → (makes_of command copy files).does loaded made lines changed → IsGoodIn store loaded h → IsGoodIn store made h
-  made_good (a_command.Add words) h loaded made lines changed does =
-      table_good store loaded made h (steps_keep (steps_of a_change.Add) each_add copy.old copy.new does.deeds loaded made does.steps)
-  made_good (a_command.Forget words) h loaded made lines changed does =
-      table_good store loaded made h (steps_keep (steps_of a_change.Forget) each_forget copy.old copy.new does.deeds loaded made does.steps)
-  made_good (a_command.Remove gone words) h loaded made lines changed does =
+  pub made_good : (command : Command) (h : tree.History) (loaded made : Table) (said : Told) (changed : Bool) → (makes_of command copy files).does loaded made said changed → IsGoodIn store loaded h → IsGoodIn store made h
+  made_good (a_command.Add words) h loaded made said changed does =
+      table_good store loaded made h (steps_keep (steps_of a_change.Add) each_add copy.old copy.new does.lines.deeds loaded made does.lines.steps)
+  made_good (a_command.Forget words) h loaded made said changed does =
+      table_good store loaded made h (steps_keep (steps_of a_change.Forget) each_forget copy.old copy.new does.lines.deeds loaded made does.lines.steps)
+  made_good (a_command.Remove gone words) h loaded made said changed does =
       table_good store loaded made h
-      (steps_keep (TakesAway gone (span_of loaded does.start files.new)) (each_taken gone loaded does.start files.new) copy.old copy.new does.acted.deeds loaded made does.acted.steps)
-  made_good (a_command.Copy source target) h loaded made lines changed does = table_good store loaded made h (copied_keeps source target does.refused loaded made does.copies.table)
-  made_good (a_command.SetParents p1 p2) h loaded made lines changed does = reparented_good files store told plain p1 p2 h loaded made lines changed does
-  made_good command h loaded made lines changed does = table_good store loaded made h (table_same loaded made does.table)
+      (steps_keep (TakesAway gone (span_of loaded does.lines.start files.new)) (each_taken gone loaded does.lines.start files.new) copy.old copy.new does.lines.acted.deeds loaded made does.lines.acted.steps)
+  made_good (a_command.Copy source target) h loaded made said changed does = table_good store loaded made h (copied_keeps source target does.lines.refused loaded made does.lines.copies.table)
+  made_good (a_command.SetParents p1 p2) h loaded made said changed does = reparented_good files store told plain p1 p2 h loaded made said.refused changed does.lines
+  made_good command h loaded made said changed does = table_good store loaded made h (table_same loaded made does.lines.table)
 
 -- ---- what a status makes
 
@@ -91,10 +90,10 @@ earned_later rows t h later notes past earned = record {
 
 noted_does : (looked : Looked) (table : Option Table) (notes : NotesData) (by : tree.History) → tree.Extends looked.tree.new by → IfSome table (λ t. AreEarnedFor looked t notes)
     → IsHonest looked.tree.new → IsTrue looked.tree.old.told → KeepsThere looked.shelf.new looked.shelf.old.last
-    → (loaded made : Table) (lines : List ℕ) (changed : Bool) → (noted_in looked.shelf table notes).does loaded made lines changed
+    → (loaded made : Table) (said : Told) (changed : Bool) → (noted_in looked.shelf table notes).does loaded made said changed
     → IsGoodIn (shelf.now looked.shelf.new).files loaded by → IsGoodIn (shelf.now looked.shelf.new).files made by
-noted_does looked None notes by past earned honest told plain loaded made lines changed does good = absurd does
-noted_does looked (Some t) notes by past earned honest told plain loaded made lines changed does good =
+noted_does looked None notes by past earned honest told plain loaded made said changed does good = absurd does
+noted_does looked (Some t) notes by past earned honest told plain loaded made said changed does good =
     let store = (shelf.now looked.shelf.new).files in
     noted_good store t loaded made notes by by (extends_same by) does.0 does.1 (earned_later (rows_in t store) t looked.tree.new by notes past (earned store honest told (there_stays looked.shelf.new looked.shelf.old.last plain))) good
 
@@ -109,9 +108,13 @@ changes_past (a_command.Remove gone words) loaded copy is = is.past
 changes_past (a_command.Copy source target) loaded copy is = is.past
 changes_past command loaded copy is = alone_past copy is
 
-behind_past : (command : Command) (copy : Watched tree.History) (files : Watched shelf.History) → ChangesBehind command copy files → tree.Extends copy.old copy.new
-behind_past command copy files (inl alone) = alone_past copy alone
-behind_past command copy files (inr (loaded, read, is)) = changes_past command loaded copy is
+read_past : (command : Command) (copy : Watched tree.History) (read : Option Table) → IsSomeAnd read (λ t. ChangesTree command t copy) → tree.Extends copy.old copy.new
+read_past command copy None is = absurd is
+read_past command copy (Some loaded) is = changes_past command loaded copy is
+
+behind_past : (command : Command) (copy : Watched tree.History) (read : Option Table) → ChangesBehind command copy read → tree.Extends copy.old copy.new
+behind_past command copy read (inl alone) = alone_past copy alone
+behind_past command copy read (inr is) = read_past command copy read is
 
 -- ---- a call
 
@@ -146,29 +149,25 @@ module _ (copy : Watched tree.History) (files : Watched shelf.History) (oversize
   abbrev call : Command → Call
   call command = record { command = command; looked = looked; saved = saved; locks = locks; out = out; err = err }
 
-  -- where the moments so far stay, and what it makes of good tables is good
-  makes_stay : (Does : Makes) → Goes saved.old saved.new → IsSafeFromCrashes Does saved
-      → ((by : tree.History) → IsFair by looked saved → IsGoodGround by (last_scene saved.old) → (from : ℕ) → files.old.last ≤ from → from ≤ files.new.last → NoneOurs files.new files.old.last from → Does.fair files.new from)
-      → ((by : tree.History) → tree.Extends copy.new by → IsFair by looked saved → (loaded made : Table) (lines : List ℕ) (changed : Bool) → Does.does loaded made lines changed
-      → IsGoodIn (shelf.now files.new).files loaded by → IsGoodIn (shelf.now files.new).files made by)
-      → StaysGood looked saved
-  makes_stay Does goes crash keeps makes by past fair ground =
-      good_stays saved.old saved.new goes fair.calm fair.keep fair.plain fair.parent by fair.published ground.good (shown (goes.past.told ∙ fair.calm.told)) Does (keeps by fair ground) (makes by past fair)
-      (safe_upon Does saved crash fair.calm fair.keep ground.latest (firm_by looked saved by goes fair ground))
+  change_stays : (command : Command) (come : Come (makes_of command copy files) files) → Goes saved.old saved.new → IsSafeFromCrashes (come_so come) saved → StaysGood looked saved
+  change_stays command come goes crash by past fair ground =
+      good_stays saved.old saved.new goes fair.calm fair.keep fair.plain fair.parent by fair.published ground.good (shown (goes.past.told ∙ fair.calm.told)) (come_so come) (may_nothing command copy files)
+      (λ from after within none. asks_none command copy files files.new from)
+      (λ loaded made said changed does there. made_good copy files (shelf.now files.new).files goes.past fair.calm.told (there_stays files.new files.old.last fair.plain) command by loaded made said changed does.2 there)
+      (safe_upon (come_so come) saved crash fair.calm fair.keep ground.latest (firm_by looked saved by goes fair ground))
 
+  status_stays : (table : Option Table) (notes : NotesData) → IfSome table (λ t. AreEarnedFor looked t notes) → Goes saved.old saved.new → IsSafeFromCrashes (noted_in files table notes) saved → StaysGood looked saved
+  status_stays table notes earned goes crash by past fair ground =
+      good_stays saved.old saved.new goes fair.calm fair.keep fair.plain fair.parent by fair.published ground.good (shown (goes.past.told ∙ fair.calm.told)) (noted_in files table notes) (may_note_nothing files table notes)
+      (λ from after within none. noted_fair files table notes files.new from (kept_fair saved goes fair.calm fair.kept ground.there from after within none))
+      (noted_does looked table notes by past earned fair.honest fair.told fair.plain)
+      (safe_upon (noted_in files table notes) saved crash fair.calm fair.keep ground.latest (firm_by looked saved by goes fair ground))
+
+  -- nothing is made of the record
   look_stays : Goes saved.old saved.new → IsSafeFromCrashes makes_nothing saved → StaysGood looked saved
-  look_stays goes crash = makes_stay makes_nothing goes crash (λ by fair ground from after within none. tt) (λ by past fair loaded made lines changed does good. absurd does)
-
-  change_stays : (command : Command) → Goes saved.old saved.new → IsSafeFromCrashes (makes_of command copy files) saved → StaysGood looked saved
-  change_stays command goes crash =
-      makes_stay (makes_of command copy files) goes crash (λ by fair ground from after within none. asks_none command copy files files.new from)
-      (λ by past fair loaded made lines changed does there. made_good copy files (shelf.now files.new).files goes.past fair.calm.told (there_stays files.new files.old.last fair.plain) command by loaded made lines changed does there)
-
-  status_stays : (flags : StatusFlags) (ran : RanStatus flags (call (a_command.Status flags)) code fault) → Goes saved.old saved.new → IsSafeFromCrashes (noted_in files ran.table ran.notes) saved → StaysGood looked saved
-  status_stays flags ran goes crash =
-      makes_stay (noted_in files ran.table ran.notes) goes crash
-      (λ by fair ground from after within none. noted_fair files ran.table ran.notes files.new from (kept_fair saved goes fair.calm fair.kept ground.there from after within none))
-      (λ by past fair. noted_does looked ran.table ran.notes by past ran.earned fair.honest fair.told fair.plain)
+  look_stays goes crash by past fair ground =
+      good_stays saved.old saved.new goes fair.calm fair.keep fair.plain fair.parent by fair.published ground.good (shown (goes.past.told ∙ fair.calm.told)) makes_nothing (λ from to may. may)
+      (λ from after within none. tt) (λ loaded made said changed does there. absurd does) (safe_upon makes_nothing saved crash fair.calm fair.keep ground.latest (firm_by looked saved by goes fair ground))
 
   reads_right : tree.Extends copy.old copy.new → Goes saved.old saved.new → ReadsRight looked saved
   reads_right past goes fair apart ground t read =
@@ -185,21 +184,26 @@ module _ (copy : Watched tree.History) (files : Watched shelf.History) (oversize
       let right = trusted_are_right (rows_in t store) t copy.old copy.new past fair.honest apart trusted in
       record { end = right; each = λ keeps. right_by_end looked t goes.past.later keeps right }
 
-  look_good : tree.Extends copy.old copy.new → Goes saved.old saved.new → IsSafeFromCrashes makes_nothing saved → KeepsGood looked saved
-  look_good past goes crash = record { past = past; stays = look_stays goes crash; right = reads_right past goes }
+  change_good : (command : Command) (come : Come (makes_of command copy files) files) → ChangesBehind command copy come.read → Goes saved.old saved.new → IsSafeFromCrashes (come_so come) saved → KeepsGood looked saved
+  change_good command come changes goes crash =
+      let past = behind_past command copy come.read changes in
+      record { past = past; stays = change_stays command come goes crash; right = reads_right past goes }
 
-  change_good : (command : Command) → RanChange (call command) code fault → Goes saved.old saved.new → IsSafeFromCrashes (makes_of command copy files) saved → KeepsGood looked saved
-  change_good command ran goes crash = let past = behind_past command copy files ran.copy in record { past = past; stays = change_stays command goes crash; right = reads_right past goes }
+  look_good : IsLeftAlone copy → Goes saved.old saved.new → IsSafeFromCrashes makes_nothing saved → KeepsGood looked saved
+  look_good alone goes crash = record { past = alone_past copy alone; stays = look_stays goes crash; right = reads_right (alone_past copy alone) goes }
 
-  -- what a command did and answered keeps what is good
+  -- what a command did keeps what is good
+  ran_good : (command : Command) (ran : Ran command (call command) code fault) → Goes saved.old saved.new → IsSafeFromCrashes (made_by command (call command) code fault ran) saved → KeepsGood looked saved
+  ran_good (a_command.Status flags) ran goes crash = record { past = ran.tree.past; stays = status_stays ran.table ran.notes ran.earned goes crash; right = reads_right ran.tree.past goes }
+  ran_good (a_command.Add words) ran goes crash = change_good (a_command.Add words) ran.come ran.copy goes crash
+  ran_good (a_command.Forget words) ran goes crash = change_good (a_command.Forget words) ran.come ran.copy goes crash
+  ran_good (a_command.Remove gone words) ran goes crash = change_good (a_command.Remove gone words) ran.come ran.copy goes crash
+  ran_good (a_command.Copy source target) ran goes crash = change_good (a_command.Copy source target) ran.come ran.copy goes crash
+  ran_good (a_command.SetParents p1 p2) ran goes crash = change_good (a_command.SetParents p1 p2) ran.come ran.copy goes crash
+  ran_good a_command.DebugDirstate ran goes crash = look_good ran.alone goes crash
+  ran_good a_command.DebugScript ran goes crash = look_good ran.idle.copy goes crash
+  ran_good (a_command.DebugLoad n) ran goes crash = look_good ran.idle.copy goes crash
+
+  -- however a call ended
   pub answered_good : (command : Command) → IsAnswered (call command) code fault → KeepsGood looked saved
-  answered_good (a_command.Status flags) is =
-      record { past = is.ran.tree.past; stays = status_stays flags is.ran is.kept is.crash; right = reads_right is.ran.tree.past is.kept }
-  answered_good (a_command.Add words) is = change_good (a_command.Add words) is.ran is.kept is.crash
-  answered_good (a_command.Forget words) is = change_good (a_command.Forget words) is.ran is.kept is.crash
-  answered_good (a_command.Remove gone words) is = change_good (a_command.Remove gone words) is.ran is.kept is.crash
-  answered_good (a_command.Copy source target) is = change_good (a_command.Copy source target) is.ran is.kept is.crash
-  answered_good (a_command.SetParents p1 p2) is = change_good (a_command.SetParents p1 p2) is.ran is.kept is.crash
-  answered_good a_command.DebugDirstate is = look_good (alone_past copy is.ran.alone) is.kept is.crash
-  answered_good a_command.DebugScript is = look_good (alone_past copy is.ran.undone.idle.copy) is.kept is.crash
-  answered_good (a_command.DebugLoad n) is = look_good (alone_past copy is.ran.undone.idle.copy) is.kept is.crash
+  answered_good command is = ran_good command is.ran is.kept is.crash

@@ -20,9 +20,11 @@ use Rattle.hg_session.specs.Call.{Saved}
 use Rattle.hg_session.specs.Change.{NoneOurs, Publishes}
 use Rattle.hg_session.specs.Crash.{IsCrashSafe, IsOwnOf, IsOwnRecord, IsSafeBy}
 use Rattle.hg_session.specs.Good.{HoldsParent, IsGoodIn, IsGoodRecord, IsOfParent, LeavesGood, LeavesParent}
+use Rattle.hg_session.specs.Told.{Told}
 use Rattle.hg_session.proofs.GoodTables.{table_good, table_same}
+use Rattle.hg_session.proofs.Makers.{none_since}
 use Rattle.hg_shelf.specs.History.{Files, others}
-use Rattle.hg_shelf.specs.Images.{Course, Goes, last_scene, scene}
+use Rattle.hg_shelf.specs.Images.{Course, Goes, Scene, last_scene, scene}
 use Rattle.hg_shelf.specs.Polite.{KeepsThere, Undisturbed, is_plain}
 use Rattle.hg_tree.specs.History as tree
 use Rattle.hg_walk.proofs.Growing.{trust_stays}
@@ -166,22 +168,22 @@ module _ (a b : Course) (goes : Goes a b) (calm : Undisturbed a b) (keep : Keeps
     | inr (inr was) ↦ of_others k within (reading f) was
   ])
 
-  module _ (shown : (k : ℕ) → k ≤ b.history.last → (scene b k).leaves (scene b k).files) (Does : Makes)
+  module _ (shown : (k : ℕ) → k ≤ b.history.last → (scene b k).leaves (scene b k).files) (Does : Makes) (nothing : (from to : Scene) → Does.may from to → ⊥)
       (fair : (from : ℕ) → start ≤ from → from ≤ b.history.last → NoneOurs b.history start from → Does.fair b.history from)
-      (makes : (loaded made : Table) (lines : List ℕ) (changed : Bool) → Does.does loaded made lines changed → IsGoodIn store loaded h → IsGoodIn store made h) where
+      (makes : (loaded made : Table) (said : Told) (changed : Bool) → Does.does loaded made said changed → IsGoodIn store loaded h → IsGoodIn store made h) where
     own_good : (is : Publishes Does saved) → IsGoodIn store is.is.found h
     own_good is =
-        let from = is.stretch.from in
-        let within : from ≤ b.history.last = omega (arith, is.stretch.order, is.stretch.end) in
-        let stood = before from is.stretch.start within is.stretch.before (scene b from).files (shown from within) in
-        let same : stood.0 ≡ is.is.loaded = one_table (reading (scene b from).files) stood.0 is.is.loaded stood.1 (is.is.there (fair from is.stretch.start within is.stretch.before)) in
+        let later : start ≤ is.since = omega (arith, is.stretch.start, is.from) in
+        let within : is.since ≤ b.history.last = omega (arith, is.upto, is.stretch.end) in
+        let none : NoneOurs b.history start is.since = none_since Does nothing saved is in
+        let stood = before is.since later within none (scene b is.since).files (shown is.since within) in
+        let same : stood.0 ≡ is.is.loaded = one_table (reading (scene b is.since).files) stood.0 is.is.loaded stood.1 (is.is.there (fair is.since later within none)) in
         let loaded : IsGoodIn store is.is.loaded h = subst (λ (t : Table). IsGoodIn store t h) same stood.2 in
-        table_good store is.is.made is.is.found h (table_same is.is.made is.is.found is.is.is) (makes is.is.loaded is.is.made is.is.lines true is.is.does loaded)
+        table_good store is.is.made is.is.found h (table_same is.is.made is.is.found is.is.is) (makes is.is.loaded is.is.made is.is.said true is.is.does loaded)
 
-    -- a table that was published of what the call makes is good
     own_record : (own : Option Table) → IsOwnOf Does saved own → (r : Option (Result Table RecordFault)) → IsOwnRecord own r → IsGoodRecord store h r
-    own_record None published r is = absurd is
-    own_record (Some table) published r is = (table, is, subst (λ (t : Table). IsGoodIn store t h) published.1 (own_good published.0))
+    own_record None of r own = absurd own
+    own_record (Some t) (is, same) r own = (t, own, subst (λ (x : Table). IsGoodIn store x h) same (own_good is))
 
     -- at each moment, where the call makes good tables of good ones
     pub good_stays : IsSafeBy Does saved → (k : ℕ) → start ≤ k → k ≤ b.history.last → LeavesGood h (scene b k)

@@ -35,9 +35,12 @@ use Rattle.hg_session.proofs.Standing.{keep_earlier, still_recorded}
 use Rattle.hg_session.specs.Anew.{IsRecorded, MetWriting, WritesOnly}
 use Rattle.hg_session.specs.Call.{Saved, Watched}
 use Rattle.hg_session.specs.Acts.{StandsAt}
-use Rattle.hg_session.specs.Change.{FailsOrUnwritten, IsKept, IsSafeHeld, IsUnwritten, MayFollowWriting, fault_of, up_to}
-use Rattle.hg_session.specs.Saving.{AnotherStood, CannotWrite, IsNoted, IsOpenedSince, IsTryOf, SavesHeld, noted_makes, save_fault, unless_full}
+use Rattle.hg_session.specs.Change.{IsKept, IsUnwritten, MayFollowWriting, up_to}
+use Rattle.hg_session.specs.Changing.{FailsOrUnwritten, IsSafeHeld, fault_of}
+use Rattle.hg_session.specs.Saving.{AnotherStood, CannotWrite, IsNoted, noted_makes}
+use Rattle.hg_session.specs.SavingNotes.{IsOpenedSince, IsTryOf, SavesHeld, save_fault, unless_full}
 use Rattle.hg_session.specs.Kept.{AreNews}
+use Rattle.hg_session.specs.Told.{refusing}
 use Rattle.hg_session.specs.Ways.{IsMadeOver, LendsUnchanged, stood_by}
 use Rattle.hg_session.specs.declared.change_fault.ChangeFault.{ChangeFault}
 use Rattle.hg_session.specs.declared.change_fault.ChangeFault.TheVariants as a_change
@@ -261,7 +264,7 @@ module _ (start : History) (b s c : Course) (ours : b.history.ours ≡ true) (pa
         | inl none ↦ inl (unwritten_then b s c passes goes none)
         | inr over ↦ inr (
           follows result,
-          published_over b s c ours passes goes calm loaded (is calm.told) made docket_is nodes_is (noted_makes (record files { old = start }) recorded notes) (used_there calm) (lends_made over.1.changed) recorded [] (noted_stands calm) (same_table recorded, same_made, refl) over.1,
+          published_over b s c ours passes goes calm loaded (is calm.told) made docket_is nodes_is (noted_makes (record files { old = start }) recorded notes) (used_there calm) (lends_made over.1.changed) recorded (refusing []) (noted_stands calm) (same_table recorded, same_made, refl) over.1,
         )
       ]
 

@@ -26,6 +26,7 @@ pub mod Looks
 pub mod Makers
 pub mod NotesKept
 pub mod Overs
+pub mod OwnTables
 pub mod ParentLoads
 pub mod Parents
 pub mod Printing

@@ -20,9 +20,10 @@ use Rattle.hg_session.specs.Call.{Count, Fails, Looked, Saved, Sink}
 use Rattle.hg_session.specs.Flags.{wanted_of}
 use Rattle.hg_session.specs.Listed.{AsksBelow, AsksLittle, AsksOver, AsksPlain, IsListable, IsListedFor, StatusCause, StatusMet, asking, first_parent}
 use Rattle.hg_session.specs.Loaded.{AsksRecord}
-use Rattle.hg_session.specs.Look.{IsShown, IsUntold, LeavesAt, Stage, at_first, at_printing, at_saving, at_telling}
-use Rattle.hg_session.specs.Put.{Puts}
-use Rattle.hg_session.specs.Status.{IsRowsText, IsWorked, OnlyAsksBelow, listed_to, show_look, status_look}
+use Rattle.hg_session.specs.Look.{IsShown, LeavesAt, OnlyReads, Stage, at_first, at_printing, at_saving, at_telling}
+use Rattle.hg_session.specs.Looking.{IsUntold, listed_to, show_look}
+use Rattle.hg_session.specs.Status.{IsWorked, SaysRows, status_look}
+use Rattle.hg_session.specs.Told.{Told}
 use Rattle.hg_walk.specs.Notes.{NotesData}
 use Rattle.hg_walk.specs.Walking.{rows_in}
 use Rattle.hg_words.specs.declared.flags.StatusFlags.{StatusFlags}
@@ -81,11 +82,8 @@ module _ (flags : StatusFlags) (looked : Looked) (behind : shelf.History) (n m :
   cause_by failed (a_status.RegexpTooBig line) cause = (met_by (a_status.RegexpTooBig line) cause.0, cause.1)
   cause_by failed fault cause = met_by fault cause
 
-  rows_by : (text : List ℕ) → IsRowsText flags part (Some table) text → IsRowsText flags looked (Some table) text
-  rows_by text is = record { rows = is.rows; listing = listed_for is.rows is.listing; is = is.is }
-
-  puts_by : (out : Sink) → Puts (IsRowsText flags part (Some table)) out → Puts (IsRowsText flags looked (Some table)) out
-  puts_by out puts = record { text = puts.text; is = rows_by puts.text puts.is; put = puts.put; calm = puts.calm }
+  says_by : (said : Told) → SaysRows flags part (Some table) said → SaysRows flags looked (Some table) said
+  says_by said is = record { rows = is.rows; listing = listed_for is.rows is.listing; printed = is.printed; warnings = is.warnings; are = is.are; warned = is.warned; unrefused = is.unrefused }
 
   -- what the plain store is over the call it is behind the load
   pub plain_by : (store : shelf.Files) → StaysPlain store looked.shelf.new looked.shelf.old.last → StaysPlain store looked.shelf.new behind.last
@@ -101,14 +99,23 @@ module _ (flags : StatusFlags) (looked : Looked) (behind : shelf.History) (n m :
 
   module _ (saved : Saved) (locks : Count) (out err : Sink) (notes : NotesData) where
     pub shown_by : IsShown (show_look flags part table notes) out err → IsShown (status_look flags looked saved locks (Some table) notes) out err
-    shown_by is = record { ready = worked_by notes is.ready; printed = puts_by out is.printed; told = is.told }
+    shown_by is = record { ready = worked_by notes is.ready; said = is.said; says = says_by is.said is.says; printed = is.printed; told = is.told }
 
-    pub left_by : OnlyAsksBelow saved locks → (Fails part.shelf → Fails looked.shelf) → (fault : Fault) → (stage : Stage) × LeavesAt (show_look flags part table notes) out err IsUntold stage fault
+    pub left_by : OnlyReads saved locks → (Fails part.shelf → Fails looked.shelf) → (fault : Fault) → (stage : Stage) × LeavesAt (show_look flags part table notes) out err IsUntold stage fault
         → (stage : Stage) × LeavesAt (status_look flags looked saved locks (Some table) notes) out err IsUntold stage fault
     left_by only failed fault (at_first, ((f, is, cause), silent, line)) = (at_first, ((only, inr (f, is, cause_by failed f cause)), silent, line))
-    left_by only failed fault (at_printing, (printing, ready, front, kind, line)) =
-        (at_printing, (only, worked_by notes ready, record { text = front.text; is = rows_by front.text front.is; put = front.put; failed = front.failed }, kind, line))
-    left_by only failed fault (at_telling, (telling, ready, puts, front, is)) = (at_telling, (only, worked_by notes ready, puts_by out puts, front, is))
+    left_by only failed fault (at_printing, (printing, ready, front, kind, line)) = (
+      at_printing,
+      (
+        only,
+        worked_by notes ready,
+        record { text = front.text; is = record { said = front.is.said; says = says_by front.is.said front.is.says; is = front.is.is }; put = front.put; failed = front.failed },
+        kind,
+        line,
+      ),
+    )
+    left_by only failed fault (at_telling, (telling, ready, all, is)) =
+        (at_telling, (only, worked_by notes ready, record { said = all.said; says = says_by all.said all.says; printed = all.printed; behind = all.behind }, is))
     left_by only failed fault (at_saving, (never, left)) = absurd never
 
   -- what was asked for below `.hg`, up to a history behind the listing

@@ -5,7 +5,8 @@ use Rattle.hg_save.specs.Loads.{During, IsTry, Try, files_at, found_by}
 use Rattle.hg_save.specs.Record.{shown_in, id_in, reading, record_in}
 use Rattle.hg_save.specs.Saved.{IsLatest, name_after, used_in}
 use Rattle.hg_save.specs.Behind.{IsSolid}
-use Rattle.hg_session.specs.Change.{FailsOrUnwritten, IsUnwritten, NoneOurs}
+use Rattle.hg_session.specs.Change.{IsUnwritten, NoneOurs}
+use Rattle.hg_session.specs.Changing.{FailsOrUnwritten}
 use Rattle.hg_session.specs.declared.change_fault.ChangeFault.{ChangeFault}
 use Rattle.hg_shelf.specs.History.{By, Files, History, Passes, label, readers}
 use Rattle.hg_shelf.specs.Images.{Course, Goes, Remains, last_scene, scene}

@@ -2,6 +2,8 @@
 use Rattle.std.proofs.Common.{◌≡◌, ◌⊎◌, Bool, true, false, List, [], ◌∷◌, ◌++◌, Result, Ok, Err, refl, ap, ◌∙◌, inl, inr, arith}
 use Rattle.std.proofs.lemmas.List.{append_assoc}
 use Rattle.hg_base.specs.declared.fault.Failed.{Failed}
+use Rattle.hg_session.specs.Call.{Count, Watched}
+use Rattle.hg_session.specs.Change.{LockEnds}
 use Rattle.hg_session.specs.Locks.{NotReturned, NotTaken, Refused, Returned, TakenAt, came_to}
 use Rattle.hg_shelf.specs.History.{Extends, History}
 use Rattle.hg_shelf.specs.Lock.{IsNoted, NotesLock, NotesUnlock}
@@ -53,3 +55,15 @@ module _ (a b c d : History) (p : Extends a b) (q : Extends b c) (r : Extends c 
   taken_by (Ok done) noted = taken_twice (came_to an_answer.GivenBack d.last) refl noted
   taken_by (Err fault) (inl noted) = taken_twice (came_to an_answer.NotGivenBack d.last) refl noted
   taken_by (Err fault) (inr none) = taken_once none
+
+-- ---- what is so besides
+
+-- where that is something else, too
+pub ends_by : {A B C X Y Z : Type 0} → (A → X) → (B → Y) → (C → Z) → (files : Watched History) (locks : Count) → LockEnds A B C files locks → LockEnds X Y Z files locks
+ends_by refused untaken unreturned files locks (inl was) =
+    inl (record { told = was.told; ours = was.ours; counted = was.counted; unwritten = was.unwritten; besides = refused was.besides })
+ends_by refused untaken unreturned files locks (inr (inl was)) =
+    inr (inl (record { told = was.told; ours = was.ours; uncounted = was.uncounted; failed = was.failed; unwritten = was.unwritten; besides = untaken was.besides }))
+ends_by refused untaken unreturned files locks (inr (inr (inl was))) = inr (inr (inl was))
+ends_by refused untaken unreturned files locks (inr (inr (inr was))) =
+    inr (inr (inr (record { told = was.told; uncounted = was.uncounted; failed = was.failed; besides = unreturned was.besides })))

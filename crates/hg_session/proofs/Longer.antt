@@ -33,13 +33,15 @@ use Rattle.hg_session.proofs.Readings.{read_longer}
 use Rattle.hg_session.proofs.Widening.{ids_longer}
 use Rattle.hg_session.proofs.Locked.{unwritten}
 use Rattle.hg_session.specs.Call.{Count, Looked, Saved, Sink}
-use Rattle.hg_session.specs.Change.{up_to}
+use Rattle.hg_session.specs.Change.{up_to, IsLoadedFirst}
 use Rattle.hg_session.specs.Flags.{wanted_of}
 use Rattle.hg_session.specs.Listed.{IsListable, IsListedFor, IsOwn, IsRightFor, IsUntouched, StatusCause, StatusMet, status_over}
 use Rattle.hg_session.specs.Loaded.{IsLoaded, IsRefused, LoadMet, MetReading}
 use Rattle.hg_session.specs.Look.{Concludes, IsShown, LeavesAt, Stage, at_first, at_printing, at_saving, at_telling}
-use Rattle.hg_session.specs.Put.{Puts, PutsFront, Tells}
-use Rattle.hg_session.specs.Status.{ByLoaded, ByLoadedFirst, IsLoadedFirst, IsRowsText, IsWorked, ListingCause, listed_to, status_look}
+use Rattle.hg_session.specs.Put.{Tells}
+use Rattle.hg_session.specs.Status.{ByLoadedFirst, IsWorked, ListingCause, SaysRows, status_look}
+use Rattle.hg_session.specs.Looking.{ByLoaded, listed_to}
+use Rattle.hg_session.specs.Told.{Told}
 use Rattle.hg_session.specs.declared.read_fault.ReadFault.{ReadFault}
 use Rattle.hg_session.specs.declared.read_fault.ReadFault.TheVariants as a_read
 use Rattle.hg_walk.specs.Right.{AreRight}
@@ -279,18 +281,16 @@ module _ (flags : StatusFlags) (looked : Looked) (saved : Saved) (locks : Count)
   why_whole fault (inl (f, is, met)) = inl (f, is, reading_whole f met)
   why_whole fault (inr (f, is, cause)) = inr (f, is, some_whole (λ t. cause_whole (wanted_of flags) t looked end later f) table cause)
 
-  rows_whole : (text : List ℕ) → IsRowsText flags (listed_to end looked) table text → IsRowsText flags looked table text
-  rows_whole text is = record {
+  says_whole : (said : Told) → SaysRows flags (listed_to end looked) table said → SaysRows flags looked table said
+  says_whole said is = record {
     rows = is.rows;
     listing = some_whole (λ t. listed_whole (wanted_of flags) t looked end later first is.rows) table is.listing;
-    is = is.is;
+    printed = is.printed;
+    warnings = is.warnings;
+    are = is.are;
+    warned = is.warned;
+    unrefused = is.unrefused;
   }
-
-  puts_whole : (out : Sink) → Puts (IsRowsText flags (listed_to end looked) table) out → Puts (IsRowsText flags looked table) out
-  puts_whole out puts = record { text = puts.text; is = rows_whole puts.text puts.is; put = puts.put; calm = puts.calm }
-
-  front_whole : (out : Sink) → PutsFront (IsRowsText flags (listed_to end looked) table) out → PutsFront (IsRowsText flags looked table) out
-  front_whole out puts = record { text = puts.text; is = rows_whole puts.text puts.is; put = puts.put; failed = puts.failed }
 
   worked_whole : (notes : NotesData) (t : Table) → IsWorked (listed_to end looked) (wanted_of flags) t notes → IsWorked looked (wanted_of flags) t notes
   worked_whole notes t is = record {
@@ -314,12 +314,21 @@ module _ (flags : StatusFlags) (looked : Looked) (saved : Saved) (locks : Count)
     left_whole : (fault : Fault) → (stage : Stage) × LeavesAt (status_look flags (listed_to end looked) saved locks table notes) out err Tells stage fault
         → (stage : Stage) × LeavesAt (status_look flags looked saved locks table notes) out err Tells stage fault
     left_whole fault (at_first, ((only, why), silent, line)) = (at_first, ((only, why_whole fault why), silent, line))
-    left_whole fault (at_printing, (only, ready, front, kind, line)) = (at_printing, (only, ready_whole ready, front_whole out front, kind, line))
-    left_whole fault (at_telling, (only, ready, puts, front, is)) = (at_telling, (only, ready_whole ready, puts_whole out puts, front, is))
-    left_whole fault (at_saving, (saving, (ready, puts, behind))) = (at_saving, (saving, (ready_whole ready, puts_whole out puts, behind)))
+    left_whole fault (at_printing, (only, ready, front, kind, line)) = (
+      at_printing,
+      (
+        only,
+        ready_whole ready,
+        record { text = front.text; is = record { said = front.is.said; says = says_whole front.is.said front.is.says; is = front.is.is }; put = front.put; failed = front.failed },
+        kind,
+        line,
+      ),
+    )
+    left_whole fault (at_telling, (only, ready, all, is)) = (at_telling, (only, ready_whole ready, record { said = all.said; says = says_whole all.said all.says; printed = all.printed; behind = all.behind }, is))
+    left_whole fault (at_saving, (saving, (ready, all))) = (at_saving, (saving, (ready_whole ready, record { said = all.said; says = says_whole all.said all.says; printed = all.printed; behind = all.behind })))
 
     shown_whole : IsShown (status_look flags (listed_to end looked) saved locks table notes) out err → IsShown (status_look flags looked saved locks table notes) out err
-    shown_whole is = record { ready = ready_whole is.ready; printed = puts_whole out is.printed; told = is.told }
+    shown_whole is = record { ready = ready_whole is.ready; said = is.said; says = says_whole is.said is.says; printed = is.printed; told = is.told }
 
     pub concludes_whole : (fault : Option Fault) → Concludes (status_look flags (listed_to end looked) saved locks table notes) out err fault → Concludes (status_look flags looked saved locks table notes) out err fault
     concludes_whole None is = record { done = λ none. shown_whole (is.done none); left = tt }

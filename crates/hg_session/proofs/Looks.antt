@@ -7,8 +7,10 @@ use Rattle.hg_report.specs.declared.fault.Fault.TheVariants as a_fault
 use Rattle.hg_base.specs.Fault.{Rose}
 use Rattle.hg_stream.specs.Stream.{GrownByFront}
 use Rattle.hg_session.specs.Call.{Looked, Sink}
-use Rattle.hg_session.specs.Look.{EndsAs, IsCalm, IsUntold, fault_in, LeavesAt, LeftBySaving, Look, Concludes, Order, Shows, Stage, at_first, at_printing, at_saving, at_telling, saves_first, saves_last}
+use Rattle.hg_session.specs.Look.{IsCalm, LeavesAt, LeftBySaving, Look, Concludes, Order, Stage, at_first, at_printing, at_saving, at_telling, saves_first, saves_last}
+use Rattle.hg_session.specs.Looking.{EndsAs, IsUntold, fault_in, Shows}
 use Rattle.hg_session.specs.Put.{IsFaultOrMemory, IsSilent, Puts, PutsFront, PutsThen, Tells, TellsLine}
+use Rattle.hg_session.specs.Told.{IsText, errors_of}
 
 pub not_without : {Q : Type 0} (answered : Option Fault) (fault : Fault) → IsFaultOrMemory answered fault → answered ≡ None → Q
 not_without answered fault (inl same) none = absurd (cc (same, none))
@@ -28,19 +30,19 @@ module _ (mid tail : Sink) (bytes : tail.old ≡ mid.new) (count : tail.before �
   abbrev pub joined : Sink
   joined = record { old = mid.old; new = tail.new; before = mid.before; after = tail.after }
 
-  puts_joined : (IsText : List ℕ → Type 0) → IsSilent tail → Puts IsText mid → Puts IsText joined
-  puts_joined IsText silent puts = record { text = puts.text; is = puts.is; put = silent.bytes ∙ bytes ∙ puts.put; calm = silent.count ∙ count ∙ puts.calm }
+  puts_joined : (Is : List ℕ → Type 0) → IsSilent tail → Puts Is mid → Puts Is joined
+  puts_joined Is silent puts = record { text = puts.text; is = puts.is; put = silent.bytes ∙ bytes ∙ puts.put; calm = silent.count ∙ count ∙ puts.calm }
 
-  front_joined : (IsText : List ℕ → Type 0) → IsSilent tail → PutsFront IsText mid → PutsFront IsText joined
-  front_joined IsText silent puts = record {
+  front_joined : (Is : List ℕ → Type 0) → IsSilent tail → PutsFront Is mid → PutsFront Is joined
+  front_joined Is silent puts = record {
     text = puts.text;
     is = puts.is;
     put = subst (λ (new : Option (List ℕ)). GrownByFront mid.old new puts.text) (sym (silent.bytes ∙ bytes)) puts.put;
     failed = subst (λ (n : ℕ). Rose mid.before n) (sym (silent.count ∙ count)) puts.failed;
   }
 
-  told_joined : (IsText : List ℕ → Type 0) (fault told : Fault) → Tells tail told → PutsThen IsText (λ rest. IsUntold rest fault) mid → PutsThen IsText (λ rest. Tells rest told) joined
-  told_joined IsText fault told line behind = record {
+  told_joined : (Is : List ℕ → Type 0) (fault told : Fault) → Tells tail told → PutsThen Is (λ rest. IsUntold rest fault) mid → PutsThen Is (λ rest. Tells rest told) joined
+  told_joined Is fault told line behind = record {
     text = behind.text;
     is = behind.is;
     mid = behind.mid;
@@ -65,30 +67,32 @@ module _ (mid tail : Sink) (bytes : tail.old ≡ mid.new) (count : tail.before �
     -- behind a saving that failed
     saving_told : (order : Order) (fault told : Fault) → Tells tail told → LeftBySaving order look out mid IsUntold fault → LeftBySaving order look out joined Tells told
     saving_told saves_first fault told line (silent, untold) = (silent, line_joined told untold.silent line)
-    saving_told saves_last fault told line (ready, printed, behind) = (ready, printed, told_joined look.Told fault told line behind)
+    saving_told saves_last fault told line (ready, all) =
+        (ready, record { said = all.said; says = all.says; printed = all.printed; behind = told_joined (IsText (errors_of all.said)) fault told line all.behind })
 
     saving_untold : {Q : Type 0} (order : Order) (fault : Fault) → has_line fault ≡ false → LeftBySaving order look out mid IsUntold fault → Q
     saving_untold saves_first fault none (silent, untold) = absurd (true≢false (sym untold.told ∙ none))
-    saving_untold saves_last fault none (ready, printed, behind) = absurd (true≢false (sym behind.rest.told ∙ none))
+    saving_untold saves_last fault none (ready, all) = absurd (true≢false (sym all.behind.rest.told ∙ none))
 
     -- the fault that was met, with its line or without one
     left_told : (fault : Fault) → has_line fault ≡ true → Tells tail fault → (stage : Stage) × LeavesAt look out mid IsUntold stage fault → Left fault
     left_told fault has line (at_first, (is, silent, untold)) = (at_first, (is, silent, line_joined fault untold.silent line))
     left_told fault has line (at_printing, (printing, ready, front, kind, untold)) = (at_printing, (printing, ready, front, kind, line_joined fault untold.silent line))
-    left_told fault has line (at_telling, (telling, ready, puts, front, is)) = told_apart fault has is
+    left_told fault has line (at_telling, (telling, ready, all, is)) = told_apart fault has is
     left_told fault has line (at_saving, (is, left)) = (at_saving, (is, saving_told look.order fault fault line left))
 
     -- or want of memory for its line
     left_memory : (fault : Fault) → has_line fault ≡ true → Tells tail a_fault.OutOfMemory → (stage : Stage) × LeavesAt look out mid IsUntold stage fault → Left a_fault.OutOfMemory
     left_memory fault has line (at_first, (is, silent, untold)) = (at_first, (memory fault is, silent, line_joined a_fault.OutOfMemory untold.silent line))
     left_memory fault has line (at_printing, (printing, ready, front, kind, untold)) = (at_printing, (printing, ready, front, inr refl, line_joined a_fault.OutOfMemory untold.silent line))
-    left_memory fault has line (at_telling, (telling, ready, puts, front, is)) = told_apart fault has is
+    left_memory fault has line (at_telling, (telling, ready, all, is)) = told_apart fault has is
     left_memory fault has line (at_saving, (is, left)) = (at_saving, (saving fault is, saving_told look.order fault a_fault.OutOfMemory line left))
 
     left_untold : (fault : Fault) → has_line fault ≡ false → IsSilent tail → (stage : Stage) × LeavesAt look out mid IsUntold stage fault → Left fault
     left_untold fault none silent (at_first, (is, quiet, untold)) = absurd (true≢false (sym untold.told ∙ none))
     left_untold fault none silent (at_printing, (printing, ready, front, kind, untold)) = absurd (true≢false (sym untold.told ∙ none))
-    left_untold fault none silent (at_telling, (telling, ready, puts, front, is)) = (at_telling, (telling, ready, puts, front_joined look.Told silent front, is))
+    left_untold fault none silent (at_telling, (telling, ready, all, is)) =
+        (at_telling, (telling, ready, record { said = all.said; says = all.says; printed = all.printed; behind = front_joined (IsText (errors_of all.said)) silent all.behind }, is))
     left_untold fault none silent (at_saving, (is, left)) = saving_untold look.order fault none left
 
     looks_err : (fault answered : Fault) → Left answered → Concludes look out joined (Some answered)
@@ -106,7 +110,13 @@ module _ (mid tail : Sink) (bytes : tail.old ≡ mid.new) (count : tail.before �
 
     pub looks_by : (done : Result Unit Fault) (code : ℕ) (fault : Option Fault) → Shows look out mid done → EndsAs tail done code fault → Concludes look out joined fault
     looks_by (Ok u) code fault shows ends = subst (λ (f : Option Fault). Concludes look out joined f) (sym ends.well.0) (record {
-      done = λ none. record { ready = shows.done.ready; printed = shows.done.printed; told = puts_joined look.Told ends.well.1 shows.done.told };
+      done = λ none. record {
+        ready = shows.done.ready;
+        said = shows.done.said;
+        says = shows.done.says;
+        printed = shows.done.printed;
+        told = puts_joined (IsText (errors_of shows.done.said)) ends.well.1 shows.done.told;
+      };
       left = tt;
     })
     looks_by (Err met) code fault shows ends = elim ends.ill [

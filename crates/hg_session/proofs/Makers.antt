@@ -1,21 +1,27 @@
 -- What a command makes, said of a part of a call, holds of the whole.
-use Rattle.std.proofs.Common.{ℕ, ◌≤◌, Bool, List, Ok, Err, codes, inl, inr, ap, ◌∙◌}
+use Rattle.std.proofs.Common.{ℕ, ◌+◌, ◌≤◌, Bool, List, Option, None, Some, Ok, Err, codes, inl, inr, ap, ◌∙◌}
+use Rattle.std.proofs.lemmas.Bool.{cases_lt}
 use Rattle.hg_base.specs.declared.id.Id20.{Id20}
 use Rattle.hg_entry.specs.Table.{Table}
 use Rattle.hg_manifest.specs.Rows.{Rows}
 use Rattle.hg_manifest.specs.declared.fault.ManifestFault.{ManifestFault}
 use Rattle.hg_ops.specs.declared.refusal.OpFault.{OpFault}
 use Rattle.hg_ops.specs.declared.refusal.OpFault.TheVariants as an_op
+use Rattle.hg_report.specs.declared.fault.Fault.{Fault}
 use Rattle.hg_save.specs.Record.{reading}
-use Rattle.hg_session.specs.Acts.{AllSteps, Deed, IsRemoved, Makes, StandsAt, StopsRemoving, TakesAway, makes_of, span_of}
-use Rattle.hg_session.specs.Call.{Watched}
+use Rattle.hg_session.specs.Acts.{AllSteps, ByOp, Deed, IsRemoved, Makes, StandsAt, StopsRemoving, TakesAway, makes_of, span_of}
+use Rattle.hg_session.specs.Call.{Saved, Watched}
+use Rattle.hg_session.specs.Change.{IsUnwritten, Made, NoneOurs, Publishes, WroteOnly, only_so}
 use Rattle.hg_session.specs.Manifests.{IsReparented, LacksParents, LacksRows, LoadsRows, StopsParents}
+use Rattle.hg_session.specs.Status.{noted_in}
+use Rattle.hg_session.specs.Told.{OnlyRefuses, Told}
 use Rattle.hg_session.proofs.Acted.{acted_wide, steps_wide}
 use Rattle.hg_session.proofs.TakenWords.{takes_longer}
 use Rattle.hg_shelf.specs.History.{Extends, History}
-use Rattle.hg_shelf.specs.Images.{Course, Goes}
+use Rattle.hg_shelf.specs.Images.{Course, Goes, Scene, scene}
 use Rattle.hg_shelf.proofs.Histories.{extends_trans}
 use Rattle.hg_tree.specs.History as tree
+use Rattle.hg_walk.specs.Notes.{NotesData}
 use Rattle.hg_words.specs.declared.given.Command.{Command}
 use Rattle.hg_words.specs.declared.given.Command.TheVariants as a_command
 use Rattle.std.specs.Prelude.{Result}
@@ -25,17 +31,27 @@ abbrev pub FairWider : Makes → Makes → Type 0
 FairWider Part Whole = (c d : History) → Extends c d → (at : ℕ) → at ≤ c.last → Whole.fair d at → Part.fair c at
 
 -- what the one says the other says
-pub record IsWider (Part Whole : Makes) : Type 0 where
-  pub does : (old new : Table) (lines : List ℕ) (changed : Bool) → Part.does old new lines changed → Whole.does old new lines changed
-  pub stops : (loaded : Table) (fault : OpFault) → Part.stops loaded fault → Whole.stops loaded fault
+pub record IsWider (Part Whole : Makes) : Type 1 where
+  pub does : (old new : Table) (said : Told) (changed : Bool) → Part.does old new said changed → Whole.does old new said changed
+  pub stops : (loaded : Table) (fault : Fault) → Part.stops loaded fault → Whole.stops loaded fault
+  pub may : (before behind : Scene) → Part.may before behind → Whole.may before behind
   pub fair : FairWider Part Whole
+
+-- also where the record that was read is told, and what was made of it
+pub so_wide : (Part Whole : Makes) → IsWider Part Whole → (read : Option Table) (work : Option Made) → IsWider (only_so Part read work) (only_so Whole read work)
+so_wide Part Whole wide read work = record {
+  does = λ old new said changed is. (is.0, is.1, wide.does old new said changed is.2);
+  stops = λ loaded fault is. (is.0, wide.stops loaded fault is.1);
+  may = wide.may;
+  fair = wide.fair;
+}
 
 -- the files of a moment record it, seen from later on too
 pub stands_later : (c d : Course) → Goes c d → (at : ℕ) → at ≤ c.history.last → (loaded : Table) → StandsAt c at loaded → StandsAt d at loaded
 stands_later c d goes at within loaded is = ap reading (goes.kept at within).shown ∙ is
 
 pub as_wide : (One : Makes) → FairWider One One → IsWider One One
-as_wide One fair = record { does = λ old new lines changed is. is; stops = λ loaded fault is. is; fair = fair }
+as_wide One fair = record { does = λ old new said changed is. is; stops = λ loaded fault is. is; may = λ before behind is. is; fair = fair }
 
 -- nothing is asked
 pub none_asked : (c d : History) → Extends c d → (at : ℕ) → at ≤ c.last → Unit {0} → Unit {0}
@@ -49,6 +65,48 @@ asks_none (a_command.Remove after words) copy files h at = tt
 asks_none (a_command.Copy source target) copy files h at = tt
 asks_none (a_command.SetParents p1 p2) copy files h at = tt
 asks_none command copy files h at = tt
+
+-- and writes nothing below `.hg` but the record
+pub may_nothing : (command : Command) (copy : Watched tree.History) (files : Watched History) (before behind : Scene) → (makes_of command copy files).may before behind → ⊥
+may_nothing (a_command.Add words) copy files before behind may = may
+may_nothing (a_command.Forget words) copy files before behind may = may
+may_nothing (a_command.Remove after words) copy files before behind may = may
+may_nothing (a_command.Copy source target) copy files before behind may = may
+may_nothing (a_command.SetParents p1 p2) copy files before behind may = may
+may_nothing command copy files before behind may = may
+
+-- nor does a status
+pub may_note_nothing : (files : Watched History) (table : Option Table) (notes : NotesData) (before behind : Scene) → (noted_in files table notes).may before behind → ⊥
+may_note_nothing files None notes before behind may = may
+may_note_nothing files (Some t) notes before behind may = may
+
+-- where it may write nothing it wrote nothing
+pub unwritten_only : (May : Scene → Scene → Type 0) → ((before behind : Scene) → May before behind → ⊥) → (saved : Saved) → WroteOnly May saved → IsUnwritten saved.old.history saved.new.history
+unwritten_only May nothing saved (inl none) = none
+unwritten_only May nothing saved (inr (stretch, only)) = record {
+  none = λ k after below is. elim (cases_lt k stretch.from) [
+    | inl early ↦ stretch.before k after early is
+    | inr late ↦ elim (cases_lt k stretch.to) [
+      | inl within ↦ nothing (scene saved.new k) (scene saved.new (k + 1)) (only k late within is)
+      | inr behind ↦ stretch.behind k behind below is
+    ]
+  ];
+}
+
+-- so before the moment from which it published it made no step
+pub none_since : (Does : Makes) → ((before behind : Scene) → Does.may before behind → ⊥) → (saved : Saved) (is : Publishes Does saved) → NoneOurs saved.new.history saved.old.history.last is.since
+none_since Does nothing saved is k after below who = elim (cases_lt k is.stretch.from) [
+  | inl early ↦ is.stretch.before k after early who
+  | inr late ↦ nothing (scene saved.new k) (scene saved.new (k + 1)) (is.may k late below who)
+]
+
+-- an operation that stops for a fault stops for it also where more is known
+by_op : (Part Whole : OpFault → Type 0) → ((fault : OpFault) → Part fault → Whole fault) → (fault : Fault) → ByOp Part fault → ByOp Whole fault
+by_op Part Whole wide fault (met, is, stops) = (met, is, wide met stops)
+
+-- and so are refusals
+refuses_by : (Part Whole : List ℕ → Type 0) → ((lines : List ℕ) → Part lines → Whole lines) → (said : Told) → OnlyRefuses Part said → OnlyRefuses Whole said
+refuses_by Part Whole wide said is = record { unprinted = is.unprinted; unwarned = is.unwarned; lines = wide said.refused is.lines }
 
 module _ (part whole : Watched History) (before : Extends whole.old part.old) (behind : Extends part.new whole.new) where
   rows_wide : (id : Id20) (answer : Result Rows ManifestFault) → LoadsRows part id answer → LoadsRows whole id answer
@@ -137,14 +195,16 @@ module _ (part whole : Watched History) (before : Extends whole.old part.old) (b
   makes_wide (a_command.Add words) copy = as_wide (makes_of (a_command.Add words) copy whole) none_asked
   makes_wide (a_command.Forget words) copy = as_wide (makes_of (a_command.Forget words) copy whole) none_asked
   makes_wide (a_command.Remove after words) copy = record {
-    does = λ old new lines changed is. removed_wide after words copy old new lines changed is;
-    stops = λ loaded fault is. stopped_wide after words copy loaded fault is;
+    does = λ old new said changed. refuses_by (λ lines. IsRemoved after words copy part old new lines changed) (λ lines. IsRemoved after words copy whole old new lines changed) (λ lines. removed_wide after words copy old new lines changed) said;
+    stops = λ loaded. by_op (StopsRemoving after words copy part loaded) (StopsRemoving after words copy whole loaded) (stopped_wide after words copy loaded);
+    may = λ before behind is. is;
     fair = none_asked;
   }
   makes_wide (a_command.Copy source target) copy = as_wide (makes_of (a_command.Copy source target) copy whole) none_asked
   makes_wide (a_command.SetParents p1 p2) copy = record {
-    does = λ old new lines changed is. reparented_wide p1 p2 old new lines changed is;
-    stops = λ loaded fault is. parents_stopped p1 p2 fault is;
+    does = λ old new said changed. refuses_by (λ lines. IsReparented p1 p2 part old new lines changed) (λ lines. IsReparented p1 p2 whole old new lines changed) (λ lines. reparented_wide p1 p2 old new lines changed) said;
+    stops = λ loaded. by_op (StopsParents p1 p2 part) (StopsParents p1 p2 whole) (parents_stopped p1 p2);
+    may = λ before behind is. is;
     fair = none_asked;
   }
-  makes_wide command copy = record { does = λ old new lines changed is. is; stops = λ loaded fault is. is; fair = none_asked }
+  makes_wide command copy = record { does = λ old new said changed is. is; stops = λ loaded fault is. is; may = λ before behind is. is; fair = none_asked }

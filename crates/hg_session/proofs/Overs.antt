@@ -7,7 +7,8 @@ use Rattle.hg_save.specs.declared.publish_fault.PublishFault.TheVariants as a_pu
 use Rattle.hg_save.specs.declared.loaded.Loaded.{Loaded}
 use Rattle.hg_session.proofs.Locked.{unwritten_here}
 use Rattle.hg_session.specs.Anew.{MetWriting, WritesOnly}
-use Rattle.hg_session.specs.Change.{FailsOrUnwritten, IsUnwritten, of_change, of_publish}
+use Rattle.hg_session.specs.Change.{IsUnwritten, of_change}
+use Rattle.hg_session.specs.Changing.{FailsOrUnwritten, of_publish}
 use Rattle.hg_session.specs.declared.change_fault.ChangeFault.TheVariants as a_change
 use Rattle.hg_shelf.specs.Images.{Course}
 

@@ -1,5 +1,6 @@
 -- What a listing over a table, its printing and its telling do, from what their parts do.
 use Rattle.std.proofs.Common.{ℕ, ◌≡◌, ◌<◌, ◌⊎◌, Bool, true, false, List, [], Option, Some, None, Result, Ok, Err, IfErr, IfOk, IsTrue, OnOk, refl, sym, ap, ◌∙◌, subst, inl, inr, arith, true≢false}
+use Rattle.std.proofs.lemmas.List.{append-nil}
 use Rattle.std.specs.Prelude.{MatchBool}
 use Rattle.hg_compare.specs.Tracked.{ParentRow}
 use Rattle.hg_entry.specs.Table.{Table}
@@ -28,7 +29,9 @@ use Rattle.hg_session.specs.Flags.{style_of, wanted_of}
 use Rattle.hg_session.specs.Listed.{AsksOver, AsksOwn, AsksPlain, IsListedFor, IsServedFor, StatusCause, StatusMet, status_over}
 use Rattle.hg_session.specs.Look.{at_first, at_printing, at_telling}
 use Rattle.hg_session.specs.Put.{IsSilent, is_stream}
-use Rattle.hg_session.specs.Status.{IsNotedBy, IsNotedByFor, IsNotedFor, IsRecordedFor, IsWorked, ShowsTable}
+use Rattle.hg_session.specs.Status.{IsNotedBy, IsNotedByFor, IsRecordedFor, IsWorked, SaysRows}
+use Rattle.hg_session.specs.Looking.{IsNotedFor, ShowsTable}
+use Rattle.hg_session.specs.Told.{Told, errors_of}
 use Rattle.hg_walk.specs.Notes.{AreEarned, NotesData}
 use Rattle.hg_walk.specs.Walking.{AreNeeded, AreNoted, AreNotedBy, rows_in}
 use Rattle.hg_walk.specs.declared.walked.Walked.{Walked}
@@ -230,6 +233,12 @@ module _ (flags : StatusFlags) (looked : Looked) (table : Table) (out err : Sink
     }
 
     module _ (text : List ℕ) (is : text ≡ text_of (style_of flags) walked.rows) where
+      abbrev said : Told
+      said = record { printed = text; warned = warnings_text walked.warnings; refused = [] }
+
+      said_by : SaysRows flags looked (Some table) said
+      said_by = record { rows = walked.rows; listing = walks.still; printed = is; warnings = walked.warnings; are = walks.warns; warned = refl; unrefused = refl }
+
       pub met_printing : GrownByFront out.old out.new text → Fails out → IsSilent err → ShowsTable flags looked table out err (Err a_fault.OutFailed)
       met_printing grown failed silent = record {
         tree = walks.tree;
@@ -243,7 +252,7 @@ module _ (flags : StatusFlags) (looked : Looked) (table : Table) (out err : Sink
             (
               tt,
               walks.worked,
-              record { text = text; is = record { rows = walked.rows; listing = walks.still; is = is }; put = grown; failed = failed },
+              record { text = text; is = record { said = said; says = said_by; is = refl }; put = grown; failed = failed },
               inl refl,
               record { told = refl; silent = silent },
             ),
@@ -258,6 +267,10 @@ module _ (flags : StatusFlags) (looked : Looked) (table : Table) (out err : Sink
       }
 
       module _ (lines : List ℕ) (warns : lines ≡ warnings_text walked.warnings) (printed : Grown out.old out.new text) (calm_out : out.after ≡ out.before) where
+        -- the warnings are all that is told
+        all_errors : lines ≡ errors_of said
+        all_errors = warns ∙ sym (append-nil (warnings_text walked.warnings))
+
         pub met_warning : GrownByFront err.old err.new lines → Fails err → ShowsTable flags looked table out err (Err a_fault.ErrFailed)
         met_warning begun failed = record {
           tree = walks.tree;
@@ -271,8 +284,12 @@ module _ (flags : StatusFlags) (looked : Looked) (table : Table) (out err : Sink
               (
                 tt,
                 walks.worked,
-                record { text = text; is = record { rows = walked.rows; listing = walks.still; is = is }; put = printed; calm = calm_out },
-                record { text = lines; is = record { warnings = walked.warnings; are = walks.warns; is = warns }; put = begun; failed = failed },
+                record {
+                  said = said;
+                  says = said_by;
+                  printed = record { text = text; is = refl; put = printed; calm = calm_out };
+                  behind = record { text = lines; is = all_errors; put = begun; failed = failed };
+                },
                 refl,
               ),
             );
@@ -294,8 +311,10 @@ module _ (flags : StatusFlags) (looked : Looked) (table : Table) (out err : Sink
           shows = record {
             done = record {
               ready = walks.worked;
-              printed = record { text = text; is = record { rows = walked.rows; listing = walks.still; is = is }; put = printed; calm = calm_out };
-              told = record { text = lines; is = record { warnings = walked.warnings; are = walks.warns; is = warns }; put = told; calm = calm_err };
+              said = said;
+              says = said_by;
+              printed = record { text = text; is = refl; put = printed; calm = calm_out };
+              told = record { text = lines; is = all_errors; put = told; calm = calm_err };
             };
             left = tt;
           };

@@ -11,7 +11,9 @@ use Rattle.hg_save.specs.Loads.{Try, files_at}
 use Rattle.hg_save.specs.Others.{named_file}
 use Rattle.hg_save.specs.Record.{shown_in, reading}
 use Rattle.hg_session.proofs.Looks.{not_without}
-use Rattle.hg_session.proofs.Crashes.{crash_safe, lasting}
+use Rattle.hg_session.proofs.Crashes.{lasting}
+use Rattle.hg_session.proofs.Locks.{ends_by}
+use Rattle.hg_session.proofs.Makers.{may_nothing, unwritten_only}
 use Rattle.hg_session.proofs.Readings.{unreadable_now}
 use Rattle.hg_append.specs.declared.fault.EncodeFault.{EncodeFault}
 use Rattle.hg_append.specs.declared.fault.EncodeFault.TheVariants as an_encode
@@ -20,13 +22,15 @@ use Rattle.hg_ops.specs.declared.refusal.OpFault.TheVariants as an_op
 use Rattle.hg_report.specs.Cause.{of_op}
 use Rattle.hg_session.specs.Acts.{Makes, makes_of}
 use Rattle.hg_session.specs.Call.{Call, Count, Fails, Saved, Serves, Watched}
-use Rattle.hg_session.specs.Change.{ChangesBehind, FailsOrUnwritten, IsDone, IsLocked, IsMade, IsReadFirst, IsSafe, MayFollowWriting, AsksChange, MetChanging, MetDoing, MetLocking, MetStop, MetUnfit, NoneOurs, Stretch, makes_in, of_change, up_to}
-use Rattle.hg_session.specs.Changed.{IsChangeText, IsExpectedChange, IsMadeOf, IsStoppedFor, IsUnfitFor, change_look, looks_at_copy, status_of}
-use Rattle.hg_session.specs.Ends.{EndsChange}
+use Rattle.hg_session.specs.Change.{ChangesBehind, FailsBehind, IsDone, IsLocked, IsMade, IsReadFirst, IsSafe, MayFollowWriting, AsksChange, MetChanging, MetDoing, MetLocking, MetStop, MetUnfit, NoneOurs, OnlyAnswers, Stretch, makes_in, of_change, up_to, Come, Made, come_so, only_so}
+use Rattle.hg_session.specs.Changing.{FailsOrUnwritten, EndsChange}
+use Rattle.hg_session.specs.Changed.{IsExpectedChange, IsMadeOf, IsStoppedFor, IsUnfitFor, SaysChange, change_look, looks_at_copy}
 use Rattle.hg_session.proofs.Records.{puts_none}
 use Rattle.hg_session.specs.Look.{LeavesAt, Stage, at_first, at_saving, at_telling}
 use Rattle.hg_session.specs.Put.{IsFaultOrMemory, IsSilent, Tells, TellsLine, is_stream}
 use Rattle.hg_session.specs.Load.{of_read}
+use Rattle.hg_session.specs.Manifests.{StopsParents}
+use Rattle.hg_session.specs.Told.{Told, refusing, status_of}
 use Rattle.hg_session.specs.Loaded.{MetReading}
 use Rattle.hg_session.specs.Ways.{Fits, IsUnfit, Stood, stood_by, stood_in}
 use Rattle.hg_session.specs.declared.change_fault.ChangeFault.{ChangeFault}
@@ -34,7 +38,7 @@ use Rattle.hg_session.specs.declared.change_fault.ChangeFault.TheVariants as a_c
 use Rattle.hg_session.specs.declared.read_fault.ReadFault.{ReadFault}
 use Rattle.hg_session.specs.declared.read_fault.ReadFault.TheVariants as a_read
 use Rattle.hg_shelf.specs.History.{Extends, Files, History, IsOurs, now, readers, us}
-use Rattle.hg_shelf.specs.Images.{Course, Goes, scene}
+use Rattle.hg_shelf.specs.Images.{Course, Goes, Scene, scene}
 use Rattle.hg_shelf.specs.Polite.{Undisturbed}
 use Rattle.hg_stream.specs.Stream.{Grown, GrownByFront}
 use Rattle.hg_tree.specs.History as tree
@@ -64,9 +68,9 @@ extends_first old new k past later = record { told = past.told; later = later; w
 
 -- the working copy serves where it may be to blame
 abbrev ServesMet : Makes → Watched tree.History → Type 0
-ServesMet Does copy = (loaded : Table) → Does.stops loaded an_op.TreeFailed → Serves copy
+ServesMet Does copy = (loaded : Table) → Does.stops loaded a_fault.TreeFailed → Serves copy
 
-module _ (Does : Makes) (copy : Watched tree.History) (a b : Course) (before after : ℕ) (past : Extends a.history b.history) (own : IsOurs a.history b.history) where
+module _ (Does : Makes) (nothing : (before behind : Scene) → Does.may before behind → ⊥) (copy : Watched tree.History) (a b : Course) (before after : ℕ) (past : Extends a.history b.history) (own : IsOurs a.history b.history) where
   abbrev files : Watched History
   files = record { old = a.history; new = b.history; before = before; after = after }
 
@@ -81,8 +85,8 @@ module _ (Does : Makes) (copy : Watched tree.History) (a b : Course) (before aft
       let first = none_own a.history b.history is.upto own is.later is.within is.none in
       sym (unstepped_found a.history (up_to is.upto b.history) is.read.tries (extends_first a.history b.history is.upto past is.later) first is.read.tried) ∙ is.read.found
 
-  abbrev made_own : (made : Table) (lines : List ℕ) (changed : Bool) → IsMade Does files made lines changed → IsMadeOf Does there made lines changed
-  made_own made lines changed is = record { loaded = is.loaded; recorded = read_own is.loaded (is.read own.told); does = is.does }
+  abbrev made_own : (made : Table) (said : Told) (changed : Bool) → IsMade Does files made said changed → IsMadeOf Does there made said changed
+  made_own made said changed is = record { loaded = is.loaded; recorded = read_own is.loaded (is.read own.told); does = is.does }
 
   -- what a try read before a step stands there
   stood_own : (tried : Try) → a.history.last ≤ tried.docket → tried.docket ≤ tried.file → tried.file ≤ b.history.last → NoneOurs b.history a.history.last tried.file → stood_by b.history tried ≡ stood_in there
@@ -106,24 +110,24 @@ module _ (Does : Makes) (copy : Watched tree.History) (a b : Course) (before aft
       let read : IsReadFirst a.history b.history met.is.loaded = met.is.read own.told in
       record {
         made = met.made;
-        lines = met.lines;
-        is = made_own met.made met.lines true met.is;
+        said = met.said;
+        is = made_own met.made met.said true met.is;
         unfit =
             subst (λ (stood : Stood). IsUnfit stood met.made fault) (read_stood met.is.loaded read) (met.unfit own.told);
       }
 
-  pub done_own : (from to : ℕ) (lines : List ℕ) → IsDone Does files saved from to lines → IsExpectedChange Does there None
-  done_own from to lines done = record {
+  pub done_own : (from to : ℕ) (said : Told) → IsDone Does files saved from to said → IsExpectedChange Does there None
+  done_own from to said done = record {
     made = done.made;
-    lines = lines;
+    said = said;
     changed = done.changed;
-    is = made_own done.made lines done.changed done.is;
+    is = made_own done.made said done.changed done.is;
     fits = elim (done.fits own.told) [ inl same ↦ inl same | inr fits ↦ inr (subst (λ (stood : Stood). Fits stood done.made) (read_stood done.is.loaded (done.is.read own.told)) fits) ];
   }
 
   -- a fault that can't be met once something was written
   still_by : (fault : Fault) → (MayFollowWriting (Some fault) → ⊥) → IsSafe Does saved (Some fault) → b.history.last ≡ a.history.last
-  still_by fault never (inl none) = none_own a.history b.history b.history.last own past.later (omega arith) none.none
+  still_by fault never (inl only) = none_own a.history b.history b.history.last own past.later (omega arith) (unwritten_only Does.may nothing saved only).none
   still_by fault never (inr (may, is)) = absurd (never may)
 
   apart : (fault : Fault) → (fault ≡ a_fault.ShelfFailed → ⊥) → (fault ≡ a_fault.ErrFailed → ⊥) → (fault ≡ a_fault.OutOfMemory → ⊥) → MayFollowWriting (Some fault) → ⊥
@@ -131,7 +135,7 @@ module _ (Does : Makes) (copy : Watched tree.History) (a b : Course) (before aft
   apart fault shelf err memory (inr (inl is)) = err is
   apart fault shelf err memory (inr (inr is)) = memory is
 
-  stop_own : (fault : OpFault) → MetStop Does files fault → IsStoppedFor Does there fault
+  stop_own : (fault : Fault) → MetStop Does files fault → IsStoppedFor Does there fault
   stop_own fault met = record { loaded = met.loaded; recorded = read_own met.loaded (met.read own.told); stops = met.stops }
 
   reading_own : (fault : ReadFault) → IsSafe Does saved (Some (of_read fault)) → MetReading files fault → Serves files → IsExpectedChange Does there (Some (of_read fault))
@@ -148,11 +152,11 @@ module _ (Does : Makes) (copy : Watched tree.History) (a b : Course) (before aft
   doing_own an_op.OutOfMemory met p q = tt
   doing_own an_op.TreeFailed met p q = steady_not_rose copy.before copy.after (p met.0.loaded met.0.stops) met.1
   doing_own an_op.ShelfFailed met p q = steady_not_rose before after q met.1
-  doing_own (an_op.NoManifest id) met p q = stop_own (an_op.NoManifest id) met.0
-  doing_own (an_op.ManifestTooLarge size) met p q = stop_own (an_op.ManifestTooLarge size) met.0
-  doing_own (an_op.ManifestLine line) met p q = stop_own (an_op.ManifestLine line) met.0
-  doing_own (an_op.ManifestOrder line) met p q = stop_own (an_op.ManifestOrder line) met.0
-  doing_own (an_op.NoContents id) met p q = stop_own (an_op.NoContents id) met.0
+  doing_own (an_op.NoManifest id) met p q = stop_own (a_fault.NoManifest id) met.0
+  doing_own (an_op.ManifestTooLarge size) met p q = stop_own (a_fault.ManifestTooLarge size) met.0
+  doing_own (an_op.ManifestLine line) met p q = stop_own (a_fault.ManifestLine line) met.0
+  doing_own (an_op.ManifestOrder line) met p q = stop_own (a_fault.ManifestOrder line) met.0
+  doing_own (an_op.NoContents id) met p q = stop_own (a_fault.NoContents id) met.0
 
   pub met_own : (fault : ChangeFault) → IsSafe Does saved (Some (of_change fault)) → MetChanging Does copy files fault → ServesMet Does copy → Serves files → IsExpectedChange Does there (Some (of_change fault))
   met_own (a_change_fault.Read fault) safe met p q = reading_own fault safe met.0 q
@@ -163,18 +167,51 @@ module _ (Does : Makes) (copy : Watched tree.History) (a b : Course) (before aft
   met_own a_change_fault.Held safe met p q = absurd met
   met_own a_change_fault.ShelfFailed safe met p q = steady_not_rose before after q met.0
 
+-- among the faults of an operation that are told so only one is this
+op_tree : {Q : Type 0} (fault : OpFault) → a_fault.TreeFailed ≡ of_op fault → (fault ≡ an_op.TreeFailed → Q) → Q
+op_tree an_op.OutOfMemory is so = absurd (cc is)
+op_tree an_op.TreeFailed is so = so refl
+op_tree an_op.ShelfFailed is so = absurd (cc is)
+op_tree (an_op.NoManifest id) is so = absurd (cc is)
+op_tree (an_op.ManifestTooLarge size) is so = absurd (cc is)
+op_tree (an_op.ManifestLine line) is so = absurd (cc is)
+op_tree (an_op.ManifestOrder line) is so = absurd (cc is)
+op_tree (an_op.NoContents id) is so = absurd (cc is)
+
 -- a command that doesn't look at the working copy has nothing to blame on it
 serves_met : (command : Command) (copy : Watched tree.History) (files : Watched History) → (looks_at_copy command ≡ true → Serves copy) → (loaded : Table)
-    → (makes_of command copy files).stops loaded an_op.TreeFailed → Serves copy
+    → (makes_of command copy files).stops loaded a_fault.TreeFailed → Serves copy
 serves_met (a_command.Add words) copy files serves loaded stops = serves refl
-serves_met (a_command.Forget words) copy files serves loaded stops = absurd (cc stops)
+serves_met (a_command.Forget words) copy files serves loaded (met, is, stops) = op_tree met is (λ same. absurd (cc (same, stops)))
 serves_met (a_command.Remove after words) copy files serves loaded stops = serves refl
 serves_met (a_command.Copy source target) copy files serves loaded stops = serves refl
-serves_met (a_command.SetParents p1 p2) copy files serves loaded stops = absurd stops
-serves_met (a_command.Status flags) copy files serves loaded stops = absurd stops
-serves_met a_command.DebugDirstate copy files serves loaded stops = absurd stops
-serves_met a_command.DebugScript copy files serves loaded stops = absurd stops
-serves_met (a_command.DebugLoad n) copy files serves loaded stops = absurd stops
+serves_met (a_command.SetParents p1 p2) copy files serves loaded (met, is, stops) = op_tree met is (λ same. absurd (subst (StopsParents p1 p2 files) same stops))
+serves_met (a_command.Status flags) copy files serves loaded (met, is, stops) = absurd stops
+serves_met a_command.DebugDirstate copy files serves loaded (met, is, stops) = absurd stops
+serves_met a_command.DebugScript copy files serves loaded (met, is, stops) = absurd stops
+serves_met (a_command.DebugLoad n) copy files serves loaded (met, is, stops) = absurd stops
+
+-- what is made of the record so far as a command came is made of it
+abbrev made_plain : (Does : Makes) (read : Option Table) (work : Option Made) (files : Files) (made : Table) (said : Told) (changed : Bool) → IsMadeOf (only_so Does read work) files made said changed → IsMadeOf Does files made said changed
+made_plain Does read work files made said changed is = record { loaded = is.loaded; recorded = is.recorded; does = is.does.2 }
+
+unfit_plain : (Does : Makes) (read : Option Table) (work : Option Made) (files : Files) (fault : EncodeFault) → IsUnfitFor (only_so Does read work) files fault → IsUnfitFor Does files fault
+unfit_plain Does read work files fault is = record { made = is.made; said = is.said; is = made_plain Does read work files is.made is.said true is.is; unfit = is.unfit }
+
+stop_plain : (Does : Makes) (read : Option Table) (work : Option Made) (files : Files) (fault : Fault) → IsStoppedFor (only_so Does read work) files fault → IsStoppedFor Does files fault
+stop_plain Does read work files fault is = record { loaded = is.loaded; recorded = is.recorded; stops = is.stops.1 }
+
+-- what is expected of a command so far as it came is expected of it
+expected_plain : (Does : Makes) (read : Option Table) (work : Option Made) (files : Files) (fault : Option Fault) → IsExpectedChange (only_so Does read work) files fault → IsExpectedChange Does files fault
+expected_plain Does read work files None is = record { made = is.made; said = is.said; changed = is.changed; is = made_plain Does read work files is.made is.said is.changed is.is; fits = is.fits }
+expected_plain Does read work files (Some (a_fault.TooLarge size)) is = unfit_plain Does read work files (an_encode.TooLarge size) is
+expected_plain Does read work files (Some a_fault.IdsSpent) is = unfit_plain Does read work files an_encode.IdsSpent is
+expected_plain Does read work files (Some (a_fault.NoManifest id)) is = stop_plain Does read work files (a_fault.NoManifest id) is
+expected_plain Does read work files (Some (a_fault.ManifestTooLarge size)) is = stop_plain Does read work files (a_fault.ManifestTooLarge size) is
+expected_plain Does read work files (Some (a_fault.ManifestLine line)) is = stop_plain Does read work files (a_fault.ManifestLine line) is
+expected_plain Does read work files (Some (a_fault.ManifestOrder line)) is = stop_plain Does read work files (a_fault.ManifestOrder line) is
+expected_plain Does read work files (Some (a_fault.NoContents id)) is = stop_plain Does read work files (a_fault.NoContents id) is
+expected_plain Does read work files (Some fault) is = is
 
 -- a status of lines is 0 or 1
 pub status_either : (n : ℕ) (lines : List ℕ) → n ≡ status_of lines → (n ≡ 0) ⊎ (n ≡ 1)
@@ -205,8 +242,8 @@ no_stream a_change_fault.ShelfFailed = refl
 -- ---- the whole command
 
 module _ (command : Command) (copy : Watched tree.History) (a b : Course) (before after : ℕ) (locks oversize : Count) (out err : Watched (Option (List ℕ)))
-    (silent : IsSilent out) (uncounted : oversize.after ≡ oversize.before) (changes : ChangesBehind command copy (record { old = a.history; new = b.history; before = before; after = after }))
-    (asked : IsTrue a.history.told → AsksChange command copy a.history b.history) (kept : Goes a b) where
+    (silent : IsSilent out) (uncounted : oversize.after ≡ oversize.before) (come : Come (makes_of command copy (record { old = a.history; new = b.history; before = before; after = after })) (record { old = a.history; new = b.history; before = before; after = after }))
+    (changes : ChangesBehind command copy come.read) (asked : IsTrue a.history.told → AsksChange command copy come.read a.history b.history) (kept : Goes a b) where
   abbrev call : Call
   call = record {
     command = command;
@@ -217,8 +254,9 @@ module _ (command : Command) (copy : Watched tree.History) (a b : Course) (befor
     err = err;
   }
 
+  -- what the command makes, so far as it came
   abbrev Does : Makes
-  Does = makes_in call
+  Does = come_so come
 
   -- what came of the lock, where this is the fault
   abbrev pub LockedBy : Option Fault → Type 0
@@ -226,107 +264,109 @@ module _ (command : Command) (copy : Watched tree.History) (a b : Course) (befor
 
   -- so it is where another fault is told, or none
   locked_as : (first told : Option Fault) → ((fault : Fault) → IsFaultOrMemory first fault → IsFaultOrMemory told fault) → LockedBy first → LockedBy told
-  locked_as first told same (inl is) = inl (record {
-    told = is.told;
-    ours = is.ours;
-    counted = is.counted;
-    unwritten = is.unwritten;
-    unasked = is.unasked;
-    unlooked = is.unlooked;
-    answer = same a_fault.Held is.answer;
-  })
-  locked_as first told same (inr (inl is)) = inr (inl (record {
-    told = is.told;
-    ours = is.ours;
-    uncounted = is.uncounted;
-    failed = is.failed;
-    unwritten = is.unwritten;
-    unasked = is.unasked;
-    unlooked = is.unlooked;
-    answer = same a_fault.ShelfFailed is.answer;
-  }))
-  locked_as first told same (inr (inr (inl is))) = inr (inr (inl is))
-  locked_as first told same (inr (inr (inr is))) = inr (inr (inr (record {
-    told = is.told;
-    uncounted = is.uncounted;
-    failed = is.failed;
-    first =
-        elim is.first [
-          | inl done ↦ inl (same a_fault.ShelfFailed done.0, done.1, done.2, done.3)
-          | inr met ↦ inr (met.0, same (of_change met.0) met.1, met.2, met.3)
-        ];
-  })))
+  locked_as first told same = ends_by (answers_as a_fault.Held) (answers_as a_fault.ShelfFailed) behind_as call.looked.shelf locks
+    where
+      answers_as : (met : Fault) → OnlyAnswers copy call.looked.shelf first met → OnlyAnswers copy call.looked.shelf told met
+      answers_as met is = record { unasked = is.unasked; unlooked = is.unlooked; answer = same met is.answer }
+
+      behind_as : FailsBehind Does copy call.looked.shelf call.saved first → FailsBehind Does copy call.looked.shelf call.saved told
+      behind_as (inl done) = inl (same a_fault.ShelfFailed done.0, done.1, done.2, done.3)
+      behind_as (inr met) = inr (met.0, same (of_change met.0) met.1, met.2, met.3)
 
   -- where there is none there was none
   never_none : {Q : Type 0} (fault : Fault) → IsFaultOrMemory None fault → Q
   never_none fault is = not_without None fault is refl
 
-  change_text : (stretch : Stretch a.history b.history) (lines : List ℕ) → IsDone Does call.looked.shelf call.saved stretch.from stretch.to lines → IsChangeText Does call lines
-  change_text stretch lines done = record { stretch = stretch; done = done; lasts = λ calm keep. lasting a b kept calm keep (stood_in (scene b stretch.from).files) done.is.loaded done.made stretch (done.kept calm) }
+  -- a command may write nothing but the record
+  nothing : (from to : Scene) → Does.may from to → ⊥
+  nothing = may_nothing command copy call.looked.shelf
 
-  pub ran_done : LockedBy None → (status : ℕ) (stretch : Stretch a.history b.history) (lines : List ℕ) (done : IsDone Does call.looked.shelf call.saved stretch.from stretch.to lines) → Grown err.old err.new lines → status ≡ status_of lines
+  says_change : (stretch : Stretch a.history b.history) (said : Told) → IsDone Does call.looked.shelf call.saved stretch.from stretch.to said → SaysChange Does call said
+  says_change stretch said done = record { stretch = stretch; done = done; lasts = λ calm keep. lasting a b kept calm keep (stood_in (scene b stretch.from).files) done.is.loaded done.made stretch (done.kept calm) }
+
+  pub ran_done : LockedBy None → (status : ℕ) (stretch : Stretch a.history b.history) (lines : List ℕ) (done : IsDone Does call.looked.shelf call.saved stretch.from stretch.to (refusing lines)) → Grown err.old err.new lines → status ≡ status_of lines
       → (Undisturbed a b → IsSafe Does call.saved None) → copy.after ≡ copy.before → after ≡ before → err.after ≡ err.before → (locks.before < locks.after → ⊥) → (copy.before < copy.after → ⊥)
       → EndsChange call status None
   ran_done locked status stretch lines done grown is safe calm_tree calm_shelf calm_err unheld well = record {
     ran = record {
+      come = come;
       shows = record {
-        done = λ none. record { ready = tt; printed = puts_none out silent; told = record { text = lines; is = change_text stretch lines done; put = grown; calm = calm_err } };
+        done = λ none. record {
+          ready = tt;
+          said = refusing lines;
+          says = says_change stretch (refusing lines) done;
+          printed = puts_none out silent;
+          told = record { text = lines; is = refl; put = grown; calm = calm_err };
+        };
         left = tt;
       };
       ends = λ none. is;
       safe = safe;
-      crash = λ calm keep first. crash_safe a b kept calm keep Does first None (safe calm);
       held = λ rose. absurd (unheld rose);
-      complete = λ quiet r steady. done_own Does copy a b before after kept.past quiet.shelf stretch.from stretch.to lines done;
+      complete = λ quiet r steady.
+          expected_plain (makes_in call) come.read come.work (now a.history).files None (done_own Does nothing copy a b before after kept.past quiet.shelf stretch.from stretch.to (refusing lines) done);
       silent = silent;
       uncounted = uncounted;
       copy = changes;
       asked = asked;
-      kept = kept;
       locked = locked;
     };
+    kept = kept;
     calm = λ none. record { tree = calm_tree; shelf = calm_shelf; regexps = uncounted; out = silent.count; err = calm_err };
     streams = tt;
     tree = λ rose. absurd (well rose);
   }
 
   safe_untold : IsSafe Does call.saved None → IsSafe Does call.saved (Some a_fault.ErrFailed)
-  safe_untold (inl none) = inl none
+  safe_untold (inl only) = inl only
   safe_untold (inr (may, is)) = inr (inr (inl refl), is)
 
   -- the error stream failed while the refused words were told
-  pub ran_untold : LockedBy None → (stretch : Stretch a.history b.history) (lines : List ℕ) (done : IsDone Does call.looked.shelf call.saved stretch.from stretch.to lines) → GrownByFront err.old err.new lines → Fails err → after ≡ before
+  pub ran_untold : LockedBy None → (stretch : Stretch a.history b.history) (lines : List ℕ) (done : IsDone Does call.looked.shelf call.saved stretch.from stretch.to (refusing lines)) → GrownByFront err.old err.new lines → Fails err → after ≡ before
       → (Undisturbed a b → IsSafe Does call.saved None) → (locks.before < locks.after → ⊥) → (copy.before < copy.after → ⊥) → (status : ℕ) → EndsChange call status (Some a_fault.ErrFailed)
   ran_untold locked stretch lines done grown failed calm_shelf safe unheld well status = record {
     ran = record {
+      come = come;
       shows = record {
         done = λ none. absurd (cc none);
-        left = (at_telling, (tt, tt, puts_none out silent, record { text = lines; is = change_text stretch lines done; put = grown; failed = failed }, refl));
+        left = (
+          at_telling,
+          (
+            tt,
+            tt,
+            record {
+              said = refusing lines;
+              says = says_change stretch (refusing lines) done;
+              printed = puts_none out silent;
+              behind = record { text = lines; is = refl; put = grown; failed = failed };
+            },
+            refl,
+          ),
+        );
       };
       ends = λ none. absurd (cc none);
       safe = λ calm. safe_untold (safe calm);
-      crash = λ calm keep first. crash_safe a b kept calm keep Does first (Some a_fault.ErrFailed) (safe_untold (safe calm));
       held = λ rose. absurd (unheld rose);
       complete = λ quiet r steady. steady_not_rose err.before err.after r failed;
       silent = silent;
       uncounted = uncounted;
       copy = changes;
       asked = asked;
-      kept = kept;
       locked = locked_as None (Some a_fault.ErrFailed) (λ fault is. never_none fault is) locked;
     };
+    kept = kept;
     calm = λ none. absurd (cc none);
     streams = λ is. calm_shelf;
     tree = λ rose. absurd (well rose);
   }
 
   safe_any : (fault : Fault) → IsSafe Does call.saved (Some fault) → IsSafe Does call.saved (Some a_fault.OutOfMemory)
-  safe_any fault (inl none) = inl none
+  safe_any fault (inl only) = inl only
   safe_any fault (inr (may, is)) = inr (inr (inr refl), is)
 
   locked_own : (fault : ChangeFault) → IsSafe Does call.saved (Some (of_change fault)) → MetLocking Does copy call.looked.shelf locks fault → IsOurs a.history b.history → ServesMet Does copy → Serves call.looked.shelf
       → IsSteady locks.before locks.after → IsExpectedChange Does (now a.history).files (Some (of_change fault))
-  locked_own fault safe (inl met) own p q steady = met_own Does copy a b before after kept.past own fault safe met p q
+  locked_own fault safe (inl met) own p q steady = met_own Does nothing copy a b before after kept.past own fault safe met p q
   locked_own fault safe (inr (held, rose, alone)) own p q steady = absurd (steady_not_rose locks.before locks.after steady rose)
 
   shelf_met : MetLocking Does copy call.looked.shelf locks a_change_fault.ShelfFailed → MetChanging Does copy call.looked.shelf a_change_fault.ShelfFailed
@@ -340,12 +380,12 @@ module _ (command : Command) (copy : Watched tree.History) (a b : Course) (befor
   stage_same : (fault : ChangeFault) → MetLocking Does copy call.looked.shelf locks fault → FailsOrUnwritten a.history b.history fault → Tells err (of_change fault)
       → (stage : Stage) × LeavesAt (change_look Does call) out err Tells stage (of_change fault)
   stage_same fault met (inl is) line = (at_saving, ((shelf_fails fault is met, inl (ap of_change is)), (silent, line)))
-  stage_same fault met (inr none) line = (at_first, ((none, fault, inl refl, met), silent, line))
+  stage_same fault met (inr none) line = (at_first, ((inl none, fault, inl refl, met), silent, line))
 
   stage_memory : (fault : ChangeFault) → MetLocking Does copy call.looked.shelf locks fault → FailsOrUnwritten a.history b.history fault → Tells err a_fault.OutOfMemory
       → (stage : Stage) × LeavesAt (change_look Does call) out err Tells stage a_fault.OutOfMemory
   stage_memory fault met (inl is) line = (at_saving, ((shelf_fails fault is met, inr refl), (silent, line)))
-  stage_memory fault met (inr none) line = (at_first, ((none, fault, inr refl, met), silent, line))
+  stage_memory fault met (inr none) line = (at_first, ((inl none, fault, inr refl, met), silent, line))
 
   ran_fault : (status : ℕ) (fault : ChangeFault) (answered : Fault) → LockedBy (Some (of_change fault)) → (answered ≡ of_change fault) ⊎ (answered ≡ a_fault.OutOfMemory) → MetLocking Does copy call.looked.shelf locks fault
       → (Undisturbed a b → IsSafe Does call.saved (Some (of_change fault))) → FailsOrUnwritten a.history b.history fault → (locks.before < locks.after → fault ≡ a_change_fault.Held)
@@ -354,19 +394,21 @@ module _ (command : Command) (copy : Watched tree.History) (a b : Course) (befor
   ran_fault status fault answered locked (inl same) met safe written held failed line =
       subst (λ (f : Fault). TellsLine err.old err.new err.before err.after f → EndsChange call status (Some f)) (sym same) (λ told. record {
         ran = record {
+          come = come;
           shows = record { done = λ none. absurd (cc none); left = stage_same fault met written told };
           ends = λ none. absurd (cc none);
           safe = safe;
-          crash = λ calm keep first. crash_safe a b kept calm keep Does first (Some (of_change fault)) (safe calm);
           held = λ rose. inl (ap (λ (f : ChangeFault). Some (of_change f)) (held rose));
-          complete = λ quiet r steady. locked_own fault (safe (calm_own a b quiet.shelf)) met quiet.shelf (serves_met command copy call.looked.shelf (λ is. (quiet.copy is).1)) quiet.serves steady;
+          complete = λ quiet r steady.
+              expected_plain (makes_in call) come.read come.work (now a.history).files (Some (of_change fault))
+              (locked_own fault (safe (calm_own a b quiet.shelf)) met quiet.shelf (λ loaded stops. serves_met command copy call.looked.shelf (λ is. (quiet.copy is).1) loaded stops.1) quiet.serves steady);
           silent = silent;
           uncounted = uncounted;
           copy = changes;
           asked = asked;
-          kept = kept;
           locked = locked;
         };
+        kept = kept;
         calm = λ none. absurd (cc none);
         streams = λ is. absurd (true≢false (sym is ∙ no_stream fault));
         tree = λ rose. inl (ap (λ (f : ChangeFault). Some (of_change f)) (failed rose));
@@ -374,19 +416,19 @@ module _ (command : Command) (copy : Watched tree.History) (a b : Course) (befor
   ran_fault status fault answered locked (inr memory) met safe written held failed line =
       subst (λ (f : Fault). TellsLine err.old err.new err.before err.after f → EndsChange call status (Some f)) (sym memory) (λ told. record {
         ran = record {
+          come = come;
           shows = record { done = λ none. absurd (cc none); left = stage_memory fault met written told };
           ends = λ none. absurd (cc none);
           safe = λ calm. safe_any (of_change fault) (safe calm);
-          crash = λ calm keep first. crash_safe a b kept calm keep Does first (Some a_fault.OutOfMemory) (safe_any (of_change fault) (safe calm));
           held = λ rose. inr refl;
           complete = λ quiet r steady. tt;
           silent = silent;
           uncounted = uncounted;
           copy = changes;
           asked = asked;
-          kept = kept;
           locked = locked_as (Some (of_change fault)) (Some a_fault.OutOfMemory) (λ met is. inr refl) locked;
         };
+        kept = kept;
         calm = λ none. absurd (cc none);
         streams = λ is. absurd (true≢false (sym is));
         tree = λ rose. inr refl;

@@ -15,7 +15,7 @@ use Rattle.hg_save.proofs.Published.{keeps_front}
 use Rattle.hg_save.specs.Leads.{Leads}
 use Rattle.hg_save.specs.Others.{IsFrontOf, named_file, nodes_in}
 use Rattle.hg_save.specs.Record.{data_name, shown_in, reading}
-use Rattle.hg_save.specs.Saved.{IsExact, IsLatest, KeepsOthers, LeavesOnly, ReadsAsBeforeOr, ShowsOnly, Stands, WritesOnly, new_docket}
+use Rattle.hg_save.specs.Saved.{IsExact, IsLatest, KeepsOthers, LeavesOnly, ReadsAsBeforeOr, ShowsOnly, Stands, TurnsOnce, WritesOnly, new_docket}
 use Rattle.hg_save.specs.declared.loaded.Loaded.{Loaded}
 use Rattle.hg_save.specs.Behind.{KeepsUsedBytes}
 use Rattle.hg_session.proofs.Locked.{end_remains, front_latest, front_remains, front_solid, none_front}
@@ -23,6 +23,7 @@ use Rattle.hg_session.proofs.UsedSteps.{used_front}
 use Rattle.hg_session.specs.Acts.{Makes, StandsAt}
 use Rattle.hg_session.specs.Anew.{IsOverwritten, IsRecorded}
 use Rattle.hg_session.specs.Change.{IsFirm, IsKept, IsPublished}
+use Rattle.hg_session.specs.Told.{Told}
 use Rattle.hg_session.specs.Ways.{IsMadeOver, KeepsBy, KeepsUnchanged, LendsUnchanged, Stood, stood_in}
 use Rattle.hg_shelf.specs.History.{Files, Passes, us}
 use Rattle.hg_shelf.specs.Images.{Course, Goes, last_scene, scene}
@@ -83,6 +84,15 @@ module _ (a b c : Course) (ours : a.history.ours ≡ true) (passes : Passes a.hi
   torn_from : (new : Encoded) → Leads (WritesOnly new (last_scene b).files) b c → Leads (WritesOnly new (scene c a.history.last).files) b c
   torn_from new leads = subst (λ (f : Files). Leads (WritesOnly new f) b c) (end_remains a b c ours passes goes calm).shown leads
 
+  turns_over : (new : Encoded) → ((k : ℕ) → b.history.last ≤ k → k ≤ c.history.last → TurnsOnce new (last_scene b).files (scene c k).files (last_scene c).files)
+      → (k : ℕ) → a.history.last ≤ k → k ≤ c.history.last → TurnsOnce new (scene c a.history.last).files (scene c k).files (last_scene c).files
+  turns_over new once k from to = elim (cases_lt b.history.last k) [
+    | inl late ↦ subst (λ (f : Files). TurnsOnce new f (scene c k).files (last_scene c).files) (end_remains a b c ours passes goes calm).shown (once k (omega (arith, late)) to)
+    | inr early ↦
+        let still : (scene c k).files ≡ (scene c a.history.last).files = (front_remains a b c ours passes goes calm k from early).shown in
+        record { each = λ at apart. inl (ap (λ (f : Files). f at) still); beside = inl (ap (λ (f : Files). f new_docket) still) }
+  ]
+
   others_by : (held : Held) (way : Way) → KeepsOthersBy way held b c → (k : ℕ) → a.history.last ≤ k → k ≤ c.history.last → KeepsBy way held.docket (scene c a.history.last).files (scene c k).files
   others_by held a_way.Rewrite (id, next, leads) k from to = (id, next, others_over (KeepsOthers held.docket.id id) (others_itself held.docket.id id) leads k from to)
   others_by held a_way.Append leads k from to = others_over (KeepsUsedBytes held.docket.id held.docket.used) (used_itself held.docket.id held.docket.used) leads k from to
@@ -120,9 +130,9 @@ module _ (a b c : Course) (ours : a.history.ours ≡ true) (passes : Passes a.hi
         solid = λ way. front_solid a b c ours passes goes calm (firm way).solid;
       }
 
-      pub published_over : (recorded : Table) (lines : List ℕ) → (Does.fair c.history a.history.last → StandsAt c a.history.last recorded) → Does.does recorded (table made) lines true → IsOverwritten made loaded b c
+      pub published_over : (recorded : Table) (said : Told) → (Does.fair c.history a.history.last → StandsAt c a.history.last recorded) → Does.does recorded (table made) said true → IsOverwritten made loaded b c
           → IsPublished Does c a.history.last c.history.last
-      published_over recorded lines there does over = record {
+      published_over recorded said there does over = record {
         loaded = recorded;
         there = there;
         held = made;
@@ -131,7 +141,7 @@ module _ (a b c : Course) (ours : a.history.ours ≡ true) (passes : Passes a.hi
         lends = lends;
         made = table made;
         same = same_table (table made);
-        lines = lines;
+        said = said;
         does = does;
         found = over.put.found;
         is = over.put.is.same;
@@ -141,6 +151,7 @@ module _ (a b c : Course) (ours : a.history.ours ≡ true) (passes : Passes a.hi
         encoded = over.put.is;
         torn = others_over (WritesOnly over.put.encoded (scene c a.history.last).files) (writes_nothing over.put.encoded (scene c a.history.last).files) (torn_from over.put.encoded over.put.torn);
         torn_left = spared_over (WritesOnly over.put.encoded (scene c a.history.last).files) (writes_nothing over.put.encoded (scene c a.history.last).files) (torn_from over.put.encoded over.put.torn);
+        once = turns_over over.put.encoded over.put.once;
         others = others_by made (plan_of made) over.put.others;
         spared = spared_by made (plan_of made) over.put.others;
         orderly = λ latest firm. keeps_front us c a.history.last b.history.last (none_front a b c passes goes) (over.put.orderly (ground_over latest firm));

@@ -2,7 +2,7 @@
 use Rattle.std.proofs.Common.{ℕ, ◌≡◌, ◌≤◌, List, [], ◌∷◌, map, Option, Some, None, Result, Ok, Err, IfOk, IsTrue, refl, sym, ap, ◌∙◌, subst, arith, inl, inr, true≢false}
 use Rattle.std.specs.List.{AllByRecursion}
 use Rattle.std.proofs.lemmas.Bool.{cases_Bool}
-use Rattle.hg_session.specs.Saving.{IsOpenedSince}
+use Rattle.hg_session.specs.SavingNotes.{IsOpenedSince}
 use Rattle.hg_base.proofs.Faults.{steady_not_rose}
 use Rattle.hg_base.specs.Fault.{HasCause}
 use Rattle.hg_docket.specs.Docket.{docket_of, docket_refusal}
@@ -19,11 +19,11 @@ use Rattle.hg_save.specs.declared.load_fault.LoadFault.{LoadFault}
 use Rattle.hg_save.specs.declared.load_fault.LoadFault.TheVariants as a_load
 use Rattle.hg_save.specs.declared.loaded.Loaded.{Loaded}
 use Rattle.hg_session.proofs.SameTables.{one_table}
-use Rattle.hg_session.specs.Anew.{IsOpened, LoadsOrRefuses}
+use Rattle.hg_session.specs.Reading.{IsOpened, LoadsOrRefuses, by_load, Answers, NodesFind, Reads}
 use Rattle.hg_session.specs.Call.{Fails, Serves, Watched}
-use Rattle.hg_session.specs.Change.{IsReadFirst, IsReadSome, up_to}
-use Rattle.hg_session.specs.Load.{by_load, of_read}
-use Rattle.hg_session.specs.Loaded.{Answers, IsLoaded, IsRead, IsRefused, IsUnreadable, LoadMet, MetReading, NodesFind, Reads, Refuses, WasLoaded}
+use Rattle.hg_session.specs.Change.{IsReadFirst, up_to}
+use Rattle.hg_session.specs.Load.{of_read}
+use Rattle.hg_session.specs.Loaded.{IsLoaded, IsRead, IsRefused, IsUnreadable, LoadMet, MetReading, Refuses, WasLoaded}
 use Rattle.hg_session.specs.declared.read_fault.ReadFault.{ReadFault}
 use Rattle.hg_session.specs.declared.read_fault.ReadFault.TheVariants as a_fault
 use Rattle.hg_shelf.specs.History.{Extends, Files, History, now}
@@ -139,7 +139,7 @@ pub first_read : (files : Watched History) (table : Table) → (IsTrue files.old
 first_read files table first told =
     let is = first told in read_longer files.old (up_to is.upto files.new) files.new table (extends_up_to files.new is.upto is.within) is.read
 
-pub was_loaded : (files : Watched History) → IsReadSome files → WasLoaded files
+pub was_loaded : (files : Watched History) → (IsTrue files.old.told → (loaded : Table) × IsReadFirst files.old files.new loaded) → WasLoaded files
 was_loaded files some told =
     let s = some told in (s.0, read_longer files.old (up_to s.1.upto files.new) files.new s.0 (extends_up_to files.new s.1.upto s.1.within) s.1.read)
 

@@ -6,26 +6,27 @@ use Rattle.hg_report.specs.declared.fault.Fault.{Fault}
 use Rattle.hg_stream.specs.Stream.{Grown}
 use Rattle.hg_shelf.specs.History as shelf
 use Rattle.hg_shelf.proofs.Histories as shelves
+use Rattle.hg_session.specs.Look.{OnlyReads}
 use Rattle.hg_session.specs.Loaded.{AsksRecord}
 use Rattle.hg_session.specs.Call.{Call, IsLeftAlone, Serves, Sink}
 use Rattle.hg_session.specs.Debug.{AnswersPrinting, HasText, IsExpectedOf, IsTextIn, Prints, RanRecord, ShowsRecord}
 use Rattle.hg_session.specs.Load.{of_print, of_read}
-use Rattle.hg_session.specs.Look.{IsLook}
-use Rattle.hg_session.specs.Put.{IsEmpty, IsFaultOrMemory, IsSilent, LeavesFront, OnStream, Puts, is_stream}
+use Rattle.hg_session.specs.Put.{IsFaultOrMemory, IsSilent, LeavesFront, OnStream, Puts, is_stream}
 use Rattle.hg_session.specs.declared.print_fault.PrintFault.{PrintFault}
 use Rattle.hg_session.specs.declared.print_fault.PrintFault.TheVariants as a_print
 use Rattle.hg_session.specs.declared.read_fault.ReadFault.{ReadFault}
 use Rattle.hg_session.specs.declared.read_fault.ReadFault.TheVariants as a_read
 use Rattle.hg_session.proofs.Looks.{not_without}
 use Rattle.hg_session.proofs.Readings.{read_now, unreadable_now}
+use Rattle.hg_session.specs.Told.{IsText}
 
 -- nothing was told, so an empty text was
 grown_none : (old : Option (List ℕ)) → Grown old old []
 grown_none None = refl
 grown_none (Some bytes) = ap Some (sym (append-nil bytes))
 
-pub puts_none : (err : Sink) → IsSilent err → Puts IsEmpty err
-puts_none err silent = record { text = []; is = refl; put = silent.bytes ∙ grown_none err.old; calm = silent.count }
+pub puts_none : (sink : Sink) → IsSilent sink → Puts (IsText []) sink
+puts_none sink silent = record { text = []; is = refl; put = silent.bytes ∙ grown_none sink.old; calm = silent.count }
 
 module _ (call : Call) (files : shelf.Passes call.looked.shelf.old call.looked.shelf.new) where
   abbrev there : shelf.Files
@@ -65,8 +66,8 @@ module _ (call : Call) (files : shelf.Passes call.looked.shelf.old call.looked.s
   front_own (Some fault) (Err met) prints answers own = front_met met prints own
 
   pub record_by : (fault : Option Fault) → ShowsRecord call.looked.shelf call.out call.err fault → (IsTrue call.looked.shelf.old.told → AsksRecord call.looked.shelf.old call.looked.shelf.new) → IsLeftAlone call.looked.tree → call.looked.oversize.after ≡ call.looked.oversize.before
-      → (code : ℕ) → IsLook call code fault → RanRecord call code fault
-  record_by fault shows below alone uncounted code look = record {
+      → (code : ℕ) → OnlyReads call.saved call.locks → (fault ≡ None → code ≡ 0) → RanRecord call code fault
+  record_by fault shows below alone uncounted code only status = record {
     shows = shows;
     whole = whole_own fault shows.came shows.prints shows.tells;
     front = front_own fault shows.came shows.prints shows.tells;
@@ -74,7 +75,8 @@ module _ (call : Call) (files : shelf.Passes call.looked.shelf.old call.looked.s
     below = below;
     alone = alone;
     uncounted = uncounted;
-    look = look;
+    only = only;
+    status = status;
   }
 
 -- a fault of reading isn't one of a stream

@@ -18,10 +18,12 @@ use Rattle.hg_session.proofs.Standing.{keep_earlier}
 use Rattle.hg_session.proofs.Widening.{calm_within, extends_up_to, held_stretch, kept_wide, safe_wide, stood_wide, unwritten_wide}
 use Rattle.hg_session.specs.Acts.{Makes}
 use Rattle.hg_session.specs.Call.{Count, Saved, Watched}
-use Rattle.hg_session.specs.Change.{IsKept, IsSafe, IsSafeHeld, IsUnwritten, up_to}
+use Rattle.hg_session.specs.Change.{IsKept, IsSafe, IsUnwritten, up_to}
+use Rattle.hg_session.specs.Changing.{IsSafeHeld}
 use Rattle.hg_session.specs.Locks.{NotTaken, Refused, TakenAt}
 use Rattle.hg_session.specs.Look.{OnlyReads}
-use Rattle.hg_session.specs.Saving.{AnotherStood, CannotWrite, IsLockedToSave, IsNoted, IsNotedHeld, IsUnsaved, SavesHeld, SavesNotes, noted_makes, once_saved, save_fault}
+use Rattle.hg_session.specs.Saving.{AnotherStood, CannotWrite, IsLockedToSave, IsNoted, IsNotedHeld, IsUnsaved, noted_makes}
+use Rattle.hg_session.specs.SavingNotes.{SavesHeld, SavesNotes, once_saved, save_fault}
 use Rattle.hg_session.specs.Ways.{IsMadeOver, IsUnfit, Stood, stood_by}
 use Rattle.hg_session.specs.declared.save_fault.SaveFault.{SaveFault}
 use Rattle.hg_session.specs.declared.save_fault.SaveFault.TheVariants as a_save
@@ -48,9 +50,9 @@ never_none fault is = absurd (cc is)
 pub saves_blank : (Own : Try → Type 0) (start : History) (c : Course) (count held : ℕ) (recorded : Table) (notes : NotesData) → IsBlank notes
     → SavesNotes Own start (record { old = c.history; new = c.history; before = count; after = count }) (record { old = c; new = c }) (record { before = held; after = held }) recorded notes None
 saves_blank Own start c count held recorded notes blank =
-    let only : OnlyReads (record { old = c.history; new = c.history; before = count; after = count }) (record { old = c; new = c }) (record { before = held; after = held }) =
+    let only : OnlyReads (record { old = c; new = c }) (record { before = held; after = held }) =
     record { passes = passes_same c.history; kept = goes_same c; held = refl } in
-    record { idle = λ none. (only, refl); safe = λ calm. inl (unwritten_here c.history); locked = inl (blank, only); saves = λ well. inl blank }
+    record { idle = λ none. (only, refl); safe = λ calm. inl (inl (unwritten_here c.history)); locked = inl (blank, only); saves = λ well. inl blank }
 
 module _ (Own : Try → Type 0) (start : History) (a b : Course) (lock : Waits a.history b.history) (before after : ℕ) (locks : Count) (recorded : Table) (notes : NotesData) (some : IsBlank notes → ⊥) (ours : b.history.ours ≡ a.history.ours) where
   abbrev called : Watched History
@@ -60,8 +62,8 @@ module _ (Own : Try → Type 0) (start : History) (a b : Course) (lock : Waits a
   pub saves_refused : (IsTrue a.history.told → Refused a.history b.history) → Rose locks.before locks.after → SavesNotes Own start called (record { old = a; new = b }) locks recorded notes None
   saves_refused told rose = record {
     idle = λ blank. absurd (some blank);
-    safe = λ calm. inl (record { none = lock.none });
-    locked = inr (inl (record { told = told; ours = ours; counted = rose; unwritten = record { none = lock.none }; answer = refl }));
+    safe = λ calm. inl (inl (record { none = lock.none }));
+    locked = inr (inl (record { told = told; ours = ours; counted = rose; unwritten = record { none = lock.none }; besides = refl }));
     saves = λ well. inr (inl rose);
   }
 
@@ -70,8 +72,8 @@ module _ (Own : Try → Type 0) (start : History) (a b : Course) (lock : Waits a
       → SavesNotes Own start called (record { old = a; new = b }) locks recorded notes (save_fault (Err a_save.ShelfFailed))
   saves_not_taken told uncounted failed = record {
     idle = λ blank. absurd (some blank);
-    safe = λ calm. inl (record { none = lock.none });
-    locked = inr (inr (inl (record { told = told; ours = ours; uncounted = uncounted; failed = failed; unwritten = record { none = lock.none }; answer = inl refl })));
+    safe = λ calm. inl (inl (record { none = lock.none }));
+    locked = inr (inr (inl (record { told = told; ours = ours; uncounted = uncounted; failed = failed; unwritten = record { none = lock.none }; besides = inl refl })));
     saves = λ well. never_none a_save.ShelfFailed well;
   }
 
@@ -146,8 +148,9 @@ module _ (Own : Try → Type 0) (start : History) (recorded : Table) (notes : No
 
   wide : IsWider Part Whole
   wide = record {
-    does = λ old new lines changed is. is;
+    does = λ old new said changed is. is;
     stops = λ loaded fault is. is;
+    may = λ before behind is. is;
     fair = λ x y past at within keep. keep_earlier (up_to at x) (up_to at y) start.last (extends_up_to at x y within past) keep;
   }
 
@@ -221,7 +224,7 @@ module _ (Own : Try → Type 0) (start : History) (recorded : Table) (notes : No
   once_safe (Err fault) freed safe = safe_wide a b c d lock unlock p q r taken held Part Whole wide alone before after first end (save_fault (Err fault)) safe
   once_safe (Ok done) (Ok unit) safe = safe_wide a b c d lock unlock p q r taken held Part Whole wide alone before after first end None safe
   once_safe (Ok done) (Err failed) safe = elim (safe_wide a b c d lock unlock p q r taken held Part Whole wide alone before after first end None safe) [
-    | inl none ↦ inl none
+    | inl only ↦ inl only
     | inr is ↦ inr (inl refl, is.1)
   ]
 
@@ -242,19 +245,19 @@ module _ (Own : Try → Type 0) (start : History) (recorded : Table) (notes : No
     told = λ told. not_returned_by a.history b.history c.history d.history p.past q.past r.past (noted told) same (unlocked (q.past.told ∙ p.past.told ∙ told));
     uncounted = uncounted;
     failed = rose_last first before after end counted cause.later (freed.rose tt);
-    first = inr refl;
+    besides = inr refl;
   }))))
   once_locked locks (Err a_save.ShelfFailed) (Err failed) counted uncounted is cause freed free unlocked = inr (inr (inr (inr (record {
     told = λ told. not_returned_by a.history b.history c.history d.history p.past q.past r.past (noted told) same (unlocked (q.past.told ∙ p.past.told ∙ told));
     uncounted = uncounted;
     failed = rose_last first before after end counted cause.later (freed.rose tt);
-    first = inl (inl refl, inr (rose_twice first before after end counted (cause.rose refl) (freed.rose tt)));
+    besides = inl (inl refl, inr (rose_twice first before after end counted (cause.rose refl) (freed.rose tt)));
   }))))
   once_locked locks (Ok done) (Err failed) counted uncounted is cause freed free unlocked = inr (inr (inr (inr (record {
     told = λ told. not_returned_by a.history b.history c.history d.history p.past q.past r.past (noted told) same (unlocked (q.past.told ∙ p.past.told ∙ told));
     uncounted = uncounted;
     failed = rose_last first before after end counted cause.later (freed.rose tt);
-    first = inl (inl refl, inl (noted_held (is.ends refl)));
+    besides = inl (inl refl, inl (noted_held (is.ends refl)));
   }))))
 
   pub saves_locked : (locks : Count) (some : IsBlank notes → ⊥) (done : Result Unit SaveFault) (freed : Result Unit Failed) → before ≡ first → locks.after ≡ locks.before

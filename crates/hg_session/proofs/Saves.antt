@@ -8,12 +8,14 @@ use Rattle.hg_entry.specs.Table.{Table}
 use Rattle.hg_report.specs.declared.fault.Fault.{Fault}
 use Rattle.hg_save.specs.Loads.{Try}
 use Rattle.hg_session.proofs.Locked.{unwritten_then}
+use Rattle.hg_session.proofs.Locks.{ends_by}
 use Rattle.hg_session.specs.Acts.{Makes}
 use Rattle.hg_session.specs.Call.{Count, Fails, FailsTwice, Saved, Watched}
-use Rattle.hg_session.specs.Change.{IsKept, IsSafe, IsUnwritten, NoneOurs, Stretch, WasReturned}
+use Rattle.hg_session.specs.Change.{IsKept, IsSafe, IsUnwritten, NoneOurs, Stretch, WasNotReturned, WasNotTaken, WasRefused, WasReturned}
 use Rattle.hg_session.specs.Locks.{NotReturned, NotTaken, came_to}
 use Rattle.hg_session.specs.Look.{OnlyReads}
-use Rattle.hg_session.specs.Saving.{IsLockedToSave, IsNoted, IsNotedHeld, SavesNotes, WasNotGivenBack, WasNotGot, WasPassedOver, noted_makes}
+use Rattle.hg_session.specs.Saving.{FailsBehindNotes, IsLockedToSave, IsNoted, IsNotedHeld, noted_makes}
+use Rattle.hg_session.specs.SavingNotes.{SavesNotes}
 use Rattle.hg_session.specs.Status.{IsLockedLast, SavesLast}
 use Rattle.hg_session.specs.Ways.{Stood, stood_by}
 use Rattle.hg_shelf.proofs.Histories.{passes_trans, us_apart}
@@ -57,8 +59,9 @@ module _ (a c d : Course) (only : Passes a.history c.history) (first : Goes a c)
   unwritten_earlier is = unwritten_then a c d only goes is
 
   safe_earlier : (Does : Makes) (fault : Option Fault) → IsSafe Does (record { old = c; new = d }) fault → IsSafe Does (record { old = a; new = d }) fault
-  safe_earlier Does fault (inl none) = inl (unwritten_earlier none)
-  safe_earlier Does fault (inr (may, is)) = inr (may, record { stretch = stretch_earlier is.stretch; is = is.is })
+  safe_earlier Does fault (inl (inl none)) = inl (inl (unwritten_earlier none))
+  safe_earlier Does fault (inl (inr (stretch, only))) = inl (inr (stretch_earlier stretch, only))
+  safe_earlier Does fault (inr (may, is)) = inr (may, record { stretch = stretch_earlier is.stretch; since = is.since; from = is.from; upto = is.upto; may = is.may; is = is.is })
 
   kept_earlier : (stood : Stood) (loaded made : Table) (from to : ℕ) → IsKept stood loaded made (record { old = c; new = d }) from to → IsKept stood loaded made (record { old = a; new = d }) from to
   kept_earlier stood loaded made from to is = record {
@@ -117,16 +120,16 @@ module _ (a c d : Course) (only : Passes a.history c.history) (first : Goes a c)
       rose_earlier : Rose held_c refused → Rose held refused
       rose_earlier rose = subst (λ (n : ℕ). Rose n refused) uncounted rose
 
-      reads_earlier : OnlyReads part (record { old = c; new = d }) locks_c → OnlyReads whole (record { old = a; new = d }) locks
+      reads_earlier : OnlyReads (record { old = c; new = d }) locks_c → OnlyReads (record { old = a; new = d }) locks
       reads_earlier is = record { passes = passes_trans a.history c.history d.history only is.passes; kept = goes_trans a c d first is.kept; held = is.held ∙ uncounted }
 
-      passed_earlier : WasPassedOver part locks_c fault → WasPassedOver whole locks fault
+      passed_earlier : {Besides : Type 0} → WasRefused Besides part locks_c → WasRefused Besides whole locks
       passed_earlier is = record {
         told = λ told. let was = is.told (told_part told) in record { at = was.at; locks = locks_earlier (came_to an_answer.Refused was.at ∷ []) was.locks };
         ours = is.ours ∙ only.ours;
         counted = rose_earlier is.counted;
         unwritten = unwritten_earlier is.unwritten;
-        answer = is.answer;
+        besides = is.besides;
       }
 
       not_taken_earlier : NotTaken c.history d.history → NotTaken a.history d.history
@@ -139,14 +142,14 @@ module _ (a c d : Course) (only : Passes a.history c.history) (first : Goes a c)
             ];
       }
 
-      not_got_earlier : WasNotGot part locks_c fault → WasNotGot whole locks fault
+      not_got_earlier : {Besides : Type 0} → WasNotTaken Besides part locks_c → WasNotTaken Besides whole locks
       not_got_earlier is = record {
         told = λ told. not_taken_earlier (is.told (told_part told));
         ours = is.ours ∙ only.ours;
         uncounted = is.uncounted ∙ uncounted;
         failed = fails_earlier is.failed;
         unwritten = unwritten_earlier is.unwritten;
-        answer = is.answer;
+        besides = is.besides;
       }
 
       returned_earlier : WasReturned part locks_c → WasReturned whole locks
@@ -170,13 +173,14 @@ module _ (a c d : Course) (only : Passes a.history c.history) (first : Goes a c)
             ];
       }
 
-      not_given_earlier : WasNotGivenBack Own a.history part (record { old = c; new = d }) locks_c t notes fault → WasNotGivenBack Own a.history whole (record { old = a; new = d }) locks t notes fault
+      not_given_earlier : WasNotReturned (FailsBehindNotes Own a.history part (record { old = c; new = d }) t notes fault) part locks_c
+          → WasNotReturned (FailsBehindNotes Own a.history whole (record { old = a; new = d }) t notes fault) whole locks
       not_given_earlier is = record {
         told = λ told. not_returned_earlier (is.told (told_part told));
         uncounted = is.uncounted ∙ uncounted;
         failed = fails_earlier is.failed;
-        first =
-            elim is.first [
+        besides =
+            elim is.besides [
               | inl (answer, inl noted) ↦ inl (answer, inl (held_earlier noted))
               | inl (answer, inr twice) ↦ inl (answer, inr (twice_earlier twice))
               | inr memory ↦ inr memory
@@ -200,7 +204,6 @@ module _ (a c d : Course) (only : Passes a.history c.history) (first : Goes a c)
           | inr (inl rose) ↦ inr (inl (rose_earlier rose))
           | inr (inr noted) ↦ inr (inr (held_earlier noted))
         ];
-        kept = goes_trans a c d first goes;
       }
 
 -- ---- by which try
@@ -218,22 +221,14 @@ module _ (Own Other : Try → Type 0) (by : (tried : Try) → Own tried → Othe
     held_by : IsNotedHeld Own files.old t notes saved → IsNotedHeld Other files.old t notes saved
     held_by is calm = let held = is calm in (held.0, noted_by held.0.from held.0.to held.1)
 
+    behind_by : (fault : Option Fault) → FailsBehindNotes Own files.old files saved t notes fault → FailsBehindNotes Other files.old files saved t notes fault
+    behind_by fault (inl (answer, inl noted)) = inl (answer, inl (held_by noted))
+    behind_by fault (inl (answer, inr twice)) = inl (answer, inr twice)
+    behind_by fault (inr memory) = inr memory
+
     locked_by : (fault : Option Fault) → IsLockedToSave Own files.old files saved locks t notes fault → IsLockedToSave Other files.old files saved locks t notes fault
     locked_by fault (inl is) = inl is
-    locked_by fault (inr (inl was)) = inr (inl was)
-    locked_by fault (inr (inr (inl was))) = inr (inr (inl was))
-    locked_by fault (inr (inr (inr (inl was)))) = inr (inr (inr (inl was)))
-    locked_by fault (inr (inr (inr (inr was)))) = inr (inr (inr (inr (record {
-      told = was.told;
-      uncounted = was.uncounted;
-      failed = was.failed;
-      first =
-          elim was.first [
-            | inl (answer, inl noted) ↦ inl (answer, inl (held_by noted))
-            | inl (answer, inr twice) ↦ inl (answer, inr twice)
-            | inr memory ↦ inr memory
-          ];
-    }))))
+    locked_by fault (inr ends) = inr (ends_by (λ none. none) (λ answer. answer) (behind_by fault) files locks ends)
 
     left_by : IsBlank notes ⊎ (Rose locks.before locks.after ⊎ IsNotedHeld Own files.old t notes saved) → IsBlank notes ⊎ (Rose locks.before locks.after ⊎ IsNotedHeld Other files.old t notes saved)
     left_by (inl blank) = inl blank
@@ -255,5 +250,4 @@ module _ (Own Other : Try → Type 0) (by : (tried : Try) → Own tried → Othe
     idle = is.idle;
     locked = last_by table notes fault is.locked;
     saves = λ none. some_by table notes (is.saves none);
-    kept = is.kept;
   }

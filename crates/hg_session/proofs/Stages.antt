@@ -12,6 +12,7 @@ use Rattle.hg_save.specs.Loads.{Try}
 use Rattle.hg_shelf.proofs.Histories.{extends_same}
 use Rattle.hg_shelf.specs.Asks.{AsksFrontOf}
 use Rattle.hg_shelf.specs.History as shelf
+use Rattle.hg_shelf.specs.Images.{Goes}
 use Rattle.hg_shelf.specs.Polite.{StaysPlain}
 use Rattle.hg_shelf.specs.History.{Files}
 use Rattle.hg_tree.specs.History as tree
@@ -26,10 +27,11 @@ use Rattle.hg_session.specs.Flags.{wanted_of}
 use Rattle.hg_session.specs.Listed.{AsksBelow, status_over}
 use Rattle.hg_session.specs.Load.{of_read}
 use Rattle.hg_session.specs.Loaded.{AsksRecord, IsLoaded, MetReading}
-use Rattle.hg_session.specs.Look.{IsCalm, IsShown, OnlyReads, Shows, at_first, at_saving, fault_in}
+use Rattle.hg_session.specs.Look.{IsCalm, IsShown, OnlyReads, at_first, at_saving}
+use Rattle.hg_session.specs.Looking.{Shows, fault_in, ByLoaded, DoesStatus, ShowsTable, listed_to}
 use Rattle.hg_session.specs.Put.{IsSilent, OnStream, is_stream}
-use Rattle.hg_session.specs.Saving.{of_save}
-use Rattle.hg_session.specs.Status.{AreEarnedFor, ByLoaded, DoesStatus, IsLockedLast, MetSaving, OnlyAsksBelow, SavesLast, ShowsTable, listed_to, status_look}
+use Rattle.hg_session.specs.SavingNotes.{of_save}
+use Rattle.hg_session.specs.Status.{AreEarnedFor, IsLockedLast, MetSaving, SavesLast, status_look}
 use Rattle.hg_session.specs.declared.read_fault.ReadFault.{ReadFault}
 use Rattle.hg_session.specs.declared.read_fault.ReadFault.TheVariants as a_read
 use Rattle.hg_session.specs.declared.save_fault.SaveFault.{SaveFault}
@@ -42,14 +44,13 @@ use Rattle.hg_words.specs.declared.flags.StatusFlags.{StatusFlags}
 -- ---- nothing is saved
 
 -- a fault was met before anything is saved
-none_saved : (Own : Try → Type 0) (files : Watched shelf.History) (saved : Saved) (locks : Count) (table : Option Table) (notes : NotesData) (fault : Fault) → OnlyAsksBelow saved locks → OnlyReads files saved locks
+none_saved : (Own : Try → Type 0) (files : Watched shelf.History) (saved : Saved) (locks : Count) (table : Option Table) (notes : NotesData) (fault : Fault) → OnlyReads saved locks
     → SavesLast Own files saved locks table notes (Some fault)
-none_saved Own files saved locks table notes fault unsaved only = record {
-  safe = λ calm. inl (unwritten saved.old.history saved.new.history unsaved.passes);
+none_saved Own files saved locks table notes fault only = record {
+  safe = λ calm. inl (inl (unwritten saved.old.history saved.new.history only.passes));
   idle = λ blank. only;
   locked = by_table table;
   saves = λ none. absurd (cc none);
-  kept = unsaved.kept;
 }
   where
     by_table : (t : Option Table) → IsLockedLast Own files saved locks t notes (Some fault)
@@ -75,7 +76,7 @@ read_told a_read.Failed = refl
 -- ---- the record wasn't read
 
 module _ (flags : StatusFlags) (looked : Looked) (saved : Saved) (locks : Count) (out err : Sink) where
-  pub does_unread : (copy : IsLeftAlone looked.tree) → tree.Passes looked.tree.old looked.tree.new → shelf.Passes looked.shelf.old looked.shelf.new → OnlyAsksBelow saved locks → (fault : ReadFault) → MetReading looked.shelf fault
+  pub does_unread : (copy : IsLeftAlone looked.tree) → tree.Passes looked.tree.old looked.tree.new → shelf.Passes looked.shelf.old looked.shelf.new → OnlyReads saved locks → (fault : ReadFault) → MetReading looked.shelf fault
       → (IsTrue looked.shelf.old.told → AsksRecord looked.shelf.old looked.shelf.new) → IsSilent out → IsSilent err → DoesStatus flags looked saved locks out err (Err (of_read fault))
   does_unread copy tree_passes passes unsaved fault met load still silent = record {
     end = looked.shelf.new;
@@ -95,7 +96,8 @@ module _ (flags : StatusFlags) (looked : Looked) (saved : Saved) (locks : Count)
     needed = tt;
     noted = none_noted looked.tree.old looked.tree.new;
     earned = tt;
-    saving = none_saved (λ tried. ⊥) looked.shelf saved locks None no_notes (of_read fault) unsaved (record { passes = passes; kept = unsaved.kept; held = unsaved.held });
+    kept = unsaved.kept;
+    saving = none_saved (λ tried. ⊥) looked.shelf saved locks None no_notes (of_read fault) unsaved;
   }
     where
       ap_asked : IsLeftAlone looked.tree → looked.tree.new.asked ≡ looked.tree.old.asked
@@ -104,7 +106,7 @@ module _ (flags : StatusFlags) (looked : Looked) (saved : Saved) (locks : Count)
 -- ---- it was read
 
 module _ (flags : StatusFlags) (looked : Looked) (saved : Saved) (locks : Count) (out err : Sink) (behind end : shelf.History) (n m : ℕ) (t : Table) (before : shelf.Passes looked.shelf.old behind) (after : shelf.Passes behind end)
-    (later : shelf.Extends end looked.shelf.new) (loaded : IsLoaded (listed_to end looked).shelf t) (load : IsTrue looked.shelf.old.told → AsksRecord looked.shelf.old behind) (only : shelf.Passes looked.shelf.old end) where
+    (later : shelf.Extends end looked.shelf.new) (loaded : IsLoaded (listed_to end looked).shelf t) (load : IsTrue looked.shelf.old.told → AsksRecord looked.shelf.old behind) (only : shelf.Passes looked.shelf.old end) (kept : Goes saved.old saved.new) where
   abbrev listed : Looked
   listed = listed_to end looked
 
@@ -159,14 +161,15 @@ module _ (flags : StatusFlags) (looked : Looked) (saved : Saved) (locks : Count)
       needed = shows.noted.needed;
       noted = shows.noted.noted;
       earned = earned_by;
+      kept = kept;
       saving = saving;
     }
 
   -- but not shown
-  pub does_unshown : Asks → OnlyAsksBelow saved locks → OnlyReads looked.shelf saved locks → (Fails part.shelf → Fails looked.shelf) → (part.shelf.after ≡ part.shelf.before → looked.shelf.after ≡ looked.shelf.before)
+  pub does_unshown : Asks → OnlyReads saved locks → (Fails part.shelf → Fails looked.shelf) → (part.shelf.after ≡ part.shelf.before → looked.shelf.after ≡ looked.shelf.before)
       → (fault : Fault) → ShowsTable flags part t out err (Err fault) → DoesStatus flags looked saved locks out err (Err fault)
-  does_unshown asks unsaved reads failed calm fault shows =
-      does_by (Err fault) shows (Err fault) (none_saved Own looked.shelf saved locks (Some t) shows.notes fault unsaved reads) asks
+  does_unshown asks unsaved failed calm fault shows =
+      does_by (Err fault) shows (Err fault) (none_saved Own looked.shelf saved locks (Some t) shows.notes fault unsaved) asks
       (record { done = tt; left = left_by flags listed behind n m t shows.tree before after saved locks out err shows.notes unsaved failed fault shows.shows.left }) tt
       (λ is. calm (shows.streams is)) shows.tree_failed
 
@@ -201,8 +204,12 @@ module _ (flags : StatusFlags) (looked : Looked) (saved : Saved) (locks : Count)
             met,
             (
               is.ready,
-              is.printed,
-              record { text = is.told.text; is = is.told.is; mid = err.new; put = is.told.put; rest = record { told = has fault met; silent = record { bytes = refl; count = shows.calm.err } } },
+              record {
+                said = is.said;
+                says = is.says;
+                printed = is.printed;
+                behind = record { text = is.told.text; is = is.told.is; mid = err.new; put = is.told.put; rest = record { told = has fault met; silent = record { bytes = refl; count = shows.calm.err } } };
+              },
             ),
           ),
         );

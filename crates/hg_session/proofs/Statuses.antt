@@ -1,25 +1,28 @@
 -- What a status did that ended so, from what was done before the line of its fault, and how that ends.
-use Rattle.std.proofs.Common.{ℕ, ◌≡◌, ◌<◌, Option, Some, None, Result, IfSome, refl, sym, inl, inr, true≢false}
+use Rattle.std.proofs.Common.{ℕ, ◌≡◌, ◌<◌, Option, Some, None, Result, IfSome, refl, sym, ap, ◌∙◌, inl, inr, true≢false}
 use Rattle.std.specs.Option.{MatchOption}
 use Rattle.hg_entry.specs.Table.{Table}
 use Rattle.hg_report.specs.declared.fault.Fault.{Fault}
 use Rattle.hg_report.specs.declared.fault.Fault.TheVariants as a_fault
 use Rattle.hg_save.specs.Loads.{Try}
 use Rattle.hg_save.specs.Others.{KeepsRecords}
-use Rattle.hg_session.proofs.Crashes.{crash_safe, lasting}
+use Rattle.hg_session.proofs.Crashes.{lasting}
 use Rattle.hg_session.proofs.Expectations.{expected_by, front_own, whole_own}
 use Rattle.hg_session.proofs.Longer.{concludes_whole, loaded_whole, own_listed, own_whole, right_some}
+use Rattle.hg_session.proofs.Locks.{ends_by}
 use Rattle.hg_session.proofs.Looks.{answer_is, calm_by, joined, looks_by}
 use Rattle.hg_session.proofs.Saves.{saves_by}
 use Rattle.hg_session.specs.Acts.{Makes}
 use Rattle.hg_session.specs.Call.{Call, Count, Looked, Saved, Sink, Watched}
-use Rattle.hg_session.specs.Change.{IsSafe, Stretch}
+use Rattle.hg_session.specs.Change.{IsSafe, Stretch, IsLoadedFirst}
 use Rattle.hg_session.specs.Flags.{wanted_of}
-use Rattle.hg_session.specs.Look.{Concludes, EndsAs, IsCalm, Look, fault_in}
+use Rattle.hg_session.specs.Look.{Concludes, IsCalm, Look}
+use Rattle.hg_session.specs.Looking.{EndsAs, fault_in, ByLoaded, DoesStatus, listed_to}
 use Rattle.hg_session.specs.Put.{IsFaultOrMemory, OnStream}
-use Rattle.hg_session.specs.Status.{ByLoaded, ByLoadedFirst, DoesStatus, IsLoadedFirst, IsLockedLast, MetSaving, RanStatus, SavesLast, listed_to, noted_in, status_look}
+use Rattle.hg_session.specs.Status.{ByLoadedFirst, IsLockedLast, MetSaving, RanStatus, SavesLast, SaysRows, noted_in, status_look}
 use Rattle.hg_session.specs.declared.read_fault.ReadFault.TheVariants as a_read
-use Rattle.hg_session.specs.Saving.{IsNoted, IsNotedHeld, LastsNoted}
+use Rattle.hg_session.specs.Saving.{FailsBehindNotes, IsNoted, IsNotedHeld, LastsNoted}
+use Rattle.hg_session.specs.Told.{status_of}
 use Rattle.hg_session.specs.Ways.{stood_by}
 use Rattle.hg_shelf.specs.History.{History, others}
 use Rattle.hg_shelf.specs.Polite.{Undisturbed}
@@ -29,7 +32,7 @@ use Rattle.hg_words.specs.declared.flags.StatusFlags.{StatusFlags}
 
 -- there may be no memory for the line of a fault that is met once something was written
 pub safe_memory : (Does : Makes) (saved : Saved) (fault : Fault) → IsSafe Does saved (Some fault) → IsSafe Does saved (Some a_fault.OutOfMemory)
-safe_memory Does saved fault (inl none) = inl none
+safe_memory Does saved fault (inl only) = inl only
 safe_memory Does saved fault (inr (may, is)) = inr (inr (inr refl), is)
 
 saves_memory : (Own : Try → Type 0) (files : Watched History) (saved : Saved) (locks : Count) (table : Option Table) (notes : NotesData) (fault : Fault) → SavesLast Own files saved locks table notes (Some fault)
@@ -39,7 +42,6 @@ saves_memory Own files saved locks table notes fault is = record {
   idle = is.idle;
   locked = locked_memory table is.locked;
   saves = λ none. absurd (cc none);
-  kept = is.kept;
 }
   where
     told_memory : IsFaultOrMemory (Some fault) a_fault.ShelfFailed → IsFaultOrMemory (Some a_fault.OutOfMemory) a_fault.ShelfFailed
@@ -48,23 +50,14 @@ saves_memory Own files saved locks table notes fault is = record {
     locked_memory : (t : Option Table) → IsLockedLast Own files saved locks t notes (Some fault) → IsLockedLast Own files saved locks t notes (Some a_fault.OutOfMemory)
     locked_memory None only = only
     locked_memory (Some t) (inl (due, only)) = inl (tt, only)
-    locked_memory (Some t) (inr (inl was)) = absurd (cc was.answer)
-    locked_memory (Some t) (inr (inr (inl was))) =
-        inr (inr (inl (record { told = was.told; ours = was.ours; uncounted = was.uncounted; failed = was.failed; unwritten = was.unwritten; answer = told_memory was.answer })))
-    locked_memory (Some t) (inr (inr (inr (inl was)))) = inr (inr (inr (inl was)))
-    locked_memory (Some t) (inr (inr (inr (inr was)))) = inr (inr (inr (inr (record {
-      told = was.told;
-      uncounted = was.uncounted;
-      failed = was.failed;
-      first =
-          elim was.first [
-            | inl noted ↦ inl (told_memory noted.0, noted.1)
-            | inr memory ↦ inr refl
-          ];
-    }))))
+    locked_memory (Some t) (inr ends) = inr (ends_by (λ none. absurd (cc none)) told_memory (behind_memory t) files locks ends)
+      where
+        behind_memory : (t : Table) → FailsBehindNotes Own files.old files saved t notes (Some fault) → FailsBehindNotes Own files.old files saved t notes (Some a_fault.OutOfMemory)
+        behind_memory t (inl (answer, is)) = inl (told_memory answer, is)
+        behind_memory t (inr memory) = inr refl
 
 -- without a fault the status is 0
-well : (code : ℕ) (fault : Option Fault) → MatchOption fault (code ≡ 0) (λ f. code ≡ 255) → fault ≡ None → code ≡ 0
+pub well : (code : ℕ) (fault : Option Fault) → MatchOption fault (code ≡ 0) (λ f. code ≡ 255) → fault ≡ None → code ≡ 0
 well code None is none = is
 well code (Some fault) is none = absurd (cc none)
 
@@ -109,7 +102,7 @@ module _ (command : Command) (flags : StatusFlags) (looked : Looked) (saved : Sa
       (noted : IsNoted Own looked.shelf.old t does.notes saved stretch.from stretch.to) → LastsNoted Own looked.shelf.old t does.notes saved stretch.from stretch.to noted
   lasts_noted calm keep t stretch (inl unsaved) = tt
   lasts_noted calm keep t stretch (inr over) = λ fair.
-      lasting saved.old saved.new saving.kept calm keep (stood_by saved.new.history over.tried) t (applied does.notes t) stretch (over.kept fair)
+      lasting saved.old saved.new does.kept calm keep (stood_by saved.new.history over.tried) t (applied does.notes t) stretch (over.kept fair)
 
   lasts_some : (calm : Undisturbed saved.old saved.new) → KeepsRecords others saved.new saved.old.history.last → (o : Option Table)
       → IfSome o (λ t. (noted : IsNotedHeld Own looked.shelf.old t does.notes saved)
@@ -117,12 +110,19 @@ module _ (command : Command) (flags : StatusFlags) (looked : Looked) (saved : Sa
   lasts_some calm keep None = tt
   lasts_some calm keep (Some t) = λ noted. lasts_noted calm keep t (noted calm).0 (noted calm).1
 
+  looks_whole : Concludes (status_look flags looked saved locks does.table does.notes) out call.err fault
+  looks_whole = concludes_whole flags looked saved locks does.table does.end does.passes.past does.later out call.err does.notes fault concludes
+
+  -- what it told
+  said_whole : (none : fault ≡ None) → SaysRows flags looked does.table (looks_whole.done none).said
+  said_whole none = (looks_whole.done none).says
+
   pub ran_status : RanStatus flags call code fault
   ran_status = record {
     table = does.table;
     loaded = loaded;
     notes = does.notes;
-    looks = concludes_whole flags looked saved locks does.table does.end does.passes.past does.later out call.err does.notes fault concludes;
+    looks = looks_whole;
     whole = λ none own right.
         whole_own flags listed saved locks out call.err does.notes does.tree does.passes does.table does.loaded fault concludes none (own_listed looked does.end does.later own)
         (right_some looked does.end does.later (wanted_of flags) does.table right);
@@ -140,8 +140,7 @@ module _ (command : Command) (flags : StatusFlags) (looked : Looked) (saved : Sa
     earned = does.earned;
     saving = saving;
     lasts = λ calm keep. lasts_some calm keep does.table;
-    crash = λ calm keep first. crash_safe saved.old saved.new saving.kept calm keep (noted_in looked.shelf does.table does.notes) first fault (saving.safe calm);
-    status = well code fault ends.status;
+    ends = λ none. well code fault ends.status none ∙ sym (ap status_of (said_whole none).unrefused);
   }
 
   -- where a device failed, or a regexp was too big, there is a fault

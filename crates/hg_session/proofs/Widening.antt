@@ -1,11 +1,13 @@
 -- What was done while the lock was held, said of the whole call.
 use Rattle.std.proofs.Common.{ℕ, ◌≡◌, ◌≤◌, ◌<◌, Bool, true, List, ◌∷◌, [], map, Option, Some, None, Result, Ok, IsTrue, refl, sym, ap, ◌∙◌, subst, arith, inl, inr}
 use Rattle.std.specs.List.{AllByRecursion}
+use Rattle.std.specs.Prelude.{IfSome, IsSomeAnd}
 use Rattle.std.proofs.lemmas.Bool.{cases_lt}
 use Rattle.hg_base.specs.Fault.{Rose}
 use Rattle.hg_docket.specs.Docket.{docket_of}
 use Rattle.hg_entry.specs.Table.{Table}
 use Rattle.hg_image.specs.Reading.{RecordFault}
+use Rattle.hg_report.specs.Cause.{of_op}
 use Rattle.hg_report.specs.declared.fault.Fault.{Fault}
 use Rattle.hg_append.specs.declared.fault.EncodeFault.{EncodeFault}
 use Rattle.hg_append.specs.declared.fault.EncodeFault.TheVariants as an_encode
@@ -22,13 +24,15 @@ use Rattle.hg_save.specs.Leads.{IsHeld}
 use Rattle.hg_save.specs.Loads.{IsTry, Tries, Try, files_at, found_by, id_by}
 use Rattle.hg_save.specs.Others.{IsFrontOf, named_file, nodes_in}
 use Rattle.hg_save.specs.Record.{data_name, shown_in, id_in, reading}
-use Rattle.hg_save.specs.Saved.{IsExact, IsLatest, ReadsAsBeforeOr, WritesOnly, name_after, used_in}
+use Rattle.hg_save.specs.Saved.{IsExact, IsLatest, ReadsAsBeforeOr, TurnsOnce, WritesOnly, name_after, used_in}
 use Rattle.hg_save.specs.Behind.{IsSolid}
 use Rattle.hg_session.specs.Acts.{Makes}
 use Rattle.hg_session.specs.Call.{Watched}
-use Rattle.hg_session.specs.Change.{AsksChange, ChangesBehind, IsDone, IsFirm, IsKept, IsMade, IsPublished, IsReadFirst, IsSafe, IsSafeHeld, IsUnwritten, IsToBlame, IsWritten, MetChanging, MetMade, MetStop, MetUnfit, NoneOurs, Stretch, up_to}
+use Rattle.hg_session.specs.Change.{AsksChange, IsDone, IsFirm, IsKept, IsMade, IsPublished, IsReadFirst, IsSafe, IsUnwritten, IsToBlame, IsWritten, MetChanging, MetMade, MetStop, MetUnfit, NoneOurs, Stretch, up_to, Come, IsLoadedFirst, Made}
+use Rattle.hg_session.specs.Changing.{IsSafeHeld}
 use Rattle.hg_session.specs.Ways.{Fits, IsUnfit, KeepsBy, KeepsUnchanged, Stood, stood_by, stood_in}
 use Rattle.hg_session.specs.Loaded.{LoadMet, MetReading, IsRefused}
+use Rattle.hg_session.specs.Told.{Told}
 use Rattle.hg_session.specs.Locks.{TakenAt}
 use Rattle.hg_session.specs.declared.read_fault.ReadFault.{ReadFault}
 use Rattle.hg_session.specs.declared.read_fault.ReadFault.TheVariants as a_read
@@ -164,27 +168,23 @@ module _ (a b c d : Course) (lock : Waits a.history b.history) (unlock : Waits c
         };
       }
 
-  -- what became of the working copy behind it
-  pub changes_wide : (command : Command) (copy : Watched tree.History) → ChangesBehind command copy (record { old = b.history; new = c.history; before = 0; after = 0 })
-      → ChangesBehind command copy (record { old = a.history; new = d.history; before = 0; after = 0 })
-  changes_wide command copy (inl alone) = inl alone
-  changes_wide command copy (inr (loaded, read, changes)) = inr (loaded, λ told. read_wide loaded (read (p.past.told ∙ told)), changes)
-
   -- what was asked for, where taking the lock and giving it back ask for nothing
-  pub asks_whole : (command : Command) (copy : Watched tree.History) → b.history.asked ≡ a.history.asked → d.history.asked ≡ c.history.asked → AsksChange command copy b.history c.history → AsksChange command copy a.history d.history
-  asks_whole command copy before behind is = record {
+  pub asks_whole : (command : Command) (copy : Watched tree.History) (read : Option Table) → b.history.asked ≡ a.history.asked → d.history.asked ≡ c.history.asked → AsksChange command copy read b.history c.history → AsksChange command copy read a.history d.history
+  asks_whole command copy read before behind is = record {
     mid = is.mid;
     end = is.end;
     past = is.past;
     later = extends_trans is.end c.history d.history is.later r.past;
     quiet = behind ∙ is.quiet;
     load = asks_wide a.history b.history is.mid is.mid p.past before (extends_same is.mid) refl is.load;
-    behind =
-        elim is.behind [
-          | inl none ↦ inl none
-          | inr asks ↦ inr (asks.0, read_wide asks.0 asks.1, asks.2)
-        ];
+    behind = is.behind;
   }
+
+  -- which record was read first in the change was in the call
+  pub loaded_wide : (before after start end : ℕ) (o : Option Table) → IfSome o (IsLoadedFirst (record { old = b.history; new = c.history; before = before; after = after }))
+      → IfSome o (IsLoadedFirst (record { old = a.history; new = d.history; before = start; after = end }))
+  loaded_wide before after start end None loaded = tt
+  loaded_wide before after start end (Some t) loaded = λ told. read_wide t (loaded (p.past.told ∙ told))
 
   -- what a try read is the same, seen from the end
   pub stood_wide : (tried : Try) → tried.docket ≤ c.history.last → tried.file ≤ c.history.last → stood_by d.history tried ≡ stood_by c.history tried
@@ -222,8 +222,8 @@ module _ (a b c d : Course) (lock : Waits a.history b.history) (unlock : Waits c
     told_part : IsTrue a.history.told → IsTrue b.history.told
     told_part told = p.past.told ∙ told
 
-    abbrev made_wide : (made : Table) (lines : List ℕ) (changed : Bool) → IsMade Part part made lines changed → IsMade Whole whole made lines changed
-    made_wide made lines changed is = record { loaded = is.loaded; read = λ told. read_wide is.loaded (is.read (told_part told)); does = wide.does is.loaded made lines changed is.does }
+    abbrev made_wide : (made : Table) (said : Told) (changed : Bool) → IsMade Part part made said changed → IsMade Whole whole made said changed
+    made_wide made said changed is = record { loaded = is.loaded; read = λ told. read_wide is.loaded (is.read (told_part told)); does = wide.does is.loaded made said changed is.does }
 
     -- what was read is the same, seen from the end
     stood_read_wide : (loaded : Table) (read : IsReadFirst b.history c.history loaded) → stood_by d.history read.read.tried.last ≡ stood_by c.history read.read.tried.last
@@ -249,11 +249,11 @@ module _ (a b c d : Course) (lock : Waits a.history b.history) (unlock : Waits c
           ];
     }
 
-    pub done_wide : (lines : List ℕ) → IsDone Part part (record { old = b; new = c }) b.history.last c.history.last lines → IsDone Whole whole (record { old = a; new = d }) b.history.last c.history.last lines
-    done_wide lines done = record {
+    pub done_wide : (said : Told) → IsDone Part part (record { old = b; new = c }) b.history.last c.history.last said → IsDone Whole whole (record { old = a; new = d }) b.history.last c.history.last said
+    done_wide said done = record {
       made = done.made;
       changed = done.changed;
-      is = made_wide done.made lines done.changed done.is;
+      is = made_wide done.made said done.changed done.is;
       fits = λ told. elim (done.fits (told_part told)) [ inl same ↦ inl same | inr fits ↦ inr (subst (λ (stood : Stood). Fits stood done.made) (sym (stood_read_wide done.is.loaded (done.is.read (told_part told)))) fits) ];
       kept = λ calm.
           subst (λ (f : Files). IsKept (stood_in f) done.is.loaded done.made (record { old = a; new = d }) b.history.last c.history.last) (sym (to_end b.history.last q.past.later).shown)
@@ -278,8 +278,8 @@ module _ (a b c d : Course) (lock : Waits a.history b.history) (unlock : Waits c
           lends = is.lends;
           made = is.made;
           same = is.same;
-          lines = is.lines;
-          does = wide.does is.loaded is.made is.lines true is.does;
+          said = is.said;
+          does = wide.does is.loaded is.made is.said true is.does;
           found = is.found;
           is = is.is;
           crash = λ first ground k f after upto left.
@@ -293,6 +293,10 @@ module _ (a b c d : Course) (lock : Waits a.history b.history) (unlock : Waits c
           torn_left = λ k f after upto left.
               let was = is.torn_left k f after upto ((to_end k upto).left f left) in
               (was.0, (from_end from near).left was.0 was.1, subst (λ (x : Files). WritesOnly is.new x was.0 f) (sym (to_end from near).shown) was.2);
+          once = λ k after upto.
+              subst (λ (f : Files). TurnsOnce is.new f (scene d k).files (scene d c.history.last).files) (sym (to_end from near).shown)
+              (subst (λ (f : Files). TurnsOnce is.new (scene c from).files f (scene d c.history.last).files) (sym (to_end k upto).shown)
+              (subst (TurnsOnce is.new (scene c from).files (scene c k).files) (sym (to_end c.history.last (omega arith)).shown) (is.once k after upto)));
           shown = λ first fair k after upto. elim (is.shown (λ way. latest (first way)) (λ way. wide.fair c.history d.history r.past from near (fair way)) k after upto) [
             | inl same ↦ inl (reading_wide k upto ∙ same ∙ sym (reading_wide from near))
             | inr new ↦ inr (reading_wide k upto ∙ new)
@@ -309,8 +313,18 @@ module _ (a b c d : Course) (lock : Waits a.history b.history) (unlock : Waits c
         }
 
     pub safe_wide : (fault : Option Fault) → IsSafeHeld Part (record { old = b; new = c }) fault → IsSafe Whole (record { old = a; new = d }) fault
-    safe_wide fault (inl none) = inl (unwritten_wide none)
-    safe_wide fault (inr (may, is)) = inr (may, record { stretch = held_stretch; is = published_wide is })
+    safe_wide fault (inl none) = inl (inl (unwritten_wide none))
+    safe_wide fault (inr (may, is)) = inr (
+      may,
+      record {
+        stretch = held_stretch;
+        since = b.history.last;
+        from = omega arith;
+        upto = q.past.later;
+        may = λ k after below. absurd (omega (arith, after, below));
+        is = published_wide is;
+      },
+    )
 
     refuses_wide : (fault : ReadFault) → LoadMet fault part → LoadMet fault whole
     refuses_wide fault met told =
@@ -326,7 +340,7 @@ module _ (a b c d : Course) (lock : Waits a.history b.history) (unlock : Waits c
           },
         )
 
-    stop_wide : (fault : OpFault) → MetStop Part part fault → MetStop Whole whole fault
+    stop_wide : (fault : Fault) → MetStop Part part fault → MetStop Whole whole fault
     stop_wide fault met = record { loaded = met.loaded; read = λ told. read_wide met.loaded (met.read (told_part told)); stops = wide.stops met.loaded fault met.stops }
 
     reading_met : (fault : ReadFault) → (Rose before after → Rose start end) → MetReading part fault → MetReading whole fault
@@ -342,13 +356,13 @@ module _ (a b c d : Course) (lock : Waits a.history b.history) (unlock : Waits c
     blame_wide fault rose met = tt
 
     pub done_met : MetMade Part part → MetMade Whole whole
-    done_met met = record { made = met.made; lines = met.lines; changed = met.changed; is = made_wide met.made met.lines met.changed met.is }
+    done_met met = record { made = met.made; said = met.said; changed = met.changed; is = made_wide met.made met.said met.changed met.is }
 
     unfit_wide : (fault : EncodeFault) → MetUnfit Part part fault → MetUnfit Whole whole fault
     unfit_wide fault met = record {
       made = met.made;
-      lines = met.lines;
-      is = made_wide met.made met.lines true met.is;
+      said = met.said;
+      is = made_wide met.made met.said true met.is;
       unfit = λ told.
           let read : IsReadFirst b.history c.history met.is.loaded = met.is.read (told_part told) in
           let within = last_within b.history (up_to read.upto c.history) read.read.tries read.read.tried in
@@ -358,9 +372,21 @@ module _ (a b c d : Course) (lock : Waits a.history b.history) (unlock : Waits c
 
     pub met_wide : (fault : ChangeFault) → (Rose before after → Rose start end) → MetChanging Part copy part fault → MetChanging Whole copy whole fault
     met_wide (a_change_fault.Read fault) rose met = (reading_met fault rose met.0, met.1)
-    met_wide (a_change_fault.Op fault) rose met = (stop_wide fault met.0, blame_wide fault rose met.1)
+    met_wide (a_change_fault.Op fault) rose met = (stop_wide (of_op fault) met.0, blame_wide fault rose met.1)
     met_wide (a_change_fault.Encode an_encode.OutOfMemory) rose met = done_met met
     met_wide (a_change_fault.Encode (an_encode.TooLarge size)) rose met = unfit_wide (an_encode.TooLarge size) met
     met_wide (a_change_fault.Encode an_encode.IdsSpent) rose met = unfit_wide an_encode.IdsSpent met
     met_wide a_change_fault.Held rose met = absurd met
     met_wide a_change_fault.ShelfFailed rose met = (rose met.0, elim met.1 [ inl alone ↦ inl alone | inr made ↦ inr (done_met made) ])
+
+    pub does_read : (read : Option Table) (w : Made) → IsSomeAnd read (λ t. Part.does t w.table w.said w.changed) → IsSomeAnd read (λ t. Whole.does t w.table w.said w.changed)
+    does_read None w does = absurd does
+    does_read (Some t) w does = wide.does t w.table w.said w.changed does
+
+    pub does_work : (read : Option Table) (work : Option Made) → IfSome work (λ w. IsSomeAnd read (λ t. Part.does t w.table w.said w.changed)) → IfSome work (λ w. IsSomeAnd read (λ t. Whole.does t w.table w.said w.changed))
+    does_work read None does = tt
+    does_work read (Some w) does = does_read read w does
+
+    -- so far as it came in the change it came in the call
+    abbrev pub come_wide : Come Part part → Come Whole whole
+    come_wide come = record { read = come.read; loaded = loaded_wide before after start end come.read come.loaded; work = come.work; does = does_work come.read come.work come.does }

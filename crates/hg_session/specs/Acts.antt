@@ -1,12 +1,9 @@
 -- What a command that changes the record makes of it, and how each does so.
-use Rattle.std.specs.Prelude.{ℕ, ◌≡◌, ◌⊎◌, ◌<◌, Bool, true, false, List, [], ◌∷◌, ◌++◌, map, Option, Some, None, Result, Ok, Err, IfErr, IfOk, OnOk, IsTrue, Vec, codes}
+use Rattle.std.specs.Prelude.{ℕ, ◌≡◌, ◌⊎◌, Bool, true, false, List, [], ◌∷◌, ◌++◌, map, Option, Some, None, Ok, Err, IsTrue, codes}
 use Rattle.std.specs.List.{AllByRecursion}
-use Rattle.std.specs.declared.alloc.Global.{Global}
-use Rattle.hg_base.specs.Fault.{HasCause}
 use Rattle.hg_entry.specs.Table.{Table}
-use Rattle.hg_mixed.specs.Edits.{IsOfSameImage}
 use Rattle.hg_nodes.specs.Edits.{IsSame}
-use Rattle.hg_mixed.specs.Held.{Held, table}
+use Rattle.hg_mixed.specs.Held.{table}
 use Rattle.hg_ops.specs.Copy.{Copies, OnlyCopies}
 use Rattle.hg_ops.specs.Look.{Adds, Looks}
 use Rattle.hg_ops.specs.Parent.{AsksStore, Span, upto}
@@ -18,15 +15,17 @@ use Rattle.hg_ops.specs.declared.copy_refusal.CopyRefusal.TheVariants as a_word
 use Rattle.hg_ops.specs.declared.refusal.OpFault.{OpFault}
 use Rattle.hg_ops.specs.declared.refusal.OpFault.TheVariants as an_op_fault
 use Rattle.hg_ops.specs.declared.refusal.Refusal.{Refusal}
+use Rattle.hg_report.specs.Cause.{of_op}
 use Rattle.hg_report.specs.Refusal.{refusal_line}
+use Rattle.hg_report.specs.declared.fault.Fault.{Fault}
 use Rattle.hg_save.specs.Record.{reading}
 use Rattle.hg_session.specs.Call.{Fails, IsLeftAlone, Watched}
-use Rattle.hg_session.specs.Kept.{KeepsLent}
 use Rattle.hg_session.specs.Manifests.{AsksManifests, IsReparented, StopsParents}
 use Rattle.hg_session.specs.declared.acting.Changing.{Changing}
 use Rattle.hg_session.specs.declared.acting.Changing.TheVariants as a_change
 use Rattle.hg_shelf.specs.History as shelf
-use Rattle.hg_shelf.specs.Images.{Course, scene}
+use Rattle.hg_session.specs.Told.{OnlyRefuses, Told}
+use Rattle.hg_shelf.specs.Images.{Course, Scene, scene}
 use Rattle.hg_tree.specs.History as tree
 use Rattle.hg_tree.specs.Touched.{ChangesOnly}
 use Rattle.hg_tree.specs.declared.asked.Asked.{Asked}
@@ -34,13 +33,18 @@ use Rattle.hg_tree.specs.declared.asked.Asked.TheVariants as an_ask
 use Rattle.hg_words.specs.declared.given.Command.{Command}
 use Rattle.hg_words.specs.declared.given.Command.TheVariants as a_command
 
--- what a command does to the record: of the one that was read the one that is made, with the lines that are told, and whether something was
--- changed; for which faults of what stands below `.hg` it stops; and what is asked of others up to the moment over which another record is published, so
--- that the one that was read stands there
+-- what a command does to the record: of the one that was read the one that is made, with what is told, and whether something was changed; for which faults it
+-- stops; what it may write below `.hg` besides publishing, from one moment to the next; and what is asked of others up to the moment over which another record
+-- is published, so that the one that was read stands there
 pub record Makes : Type 1 where
-  pub does : Table → Table → List ℕ → Bool → Type 0
-  pub stops : Table → OpFault → Type 0
+  pub does : Table → Table → Told → Bool → Type 0
+  pub stops : Table → Fault → Type 0
+  pub may : Scene → Scene → Type 0
   pub fair : shelf.History → ℕ → Type 0
+
+-- nothing may be written besides
+abbrev pub WritesNothing : Scene → Scene → Type 0
+WritesNothing before behind = ⊥
 
 -- nothing is asked of others: the record is read while the lock is held
 abbrev pub AskNothing : shelf.History → ℕ → Type 0
@@ -48,7 +52,11 @@ AskNothing h at = Unit {0}
 
 -- a command that makes nothing of the record
 abbrev pub makes_nothing : Makes
-makes_nothing = record { does = λ loaded made lines changed. ⊥; stops = λ loaded fault. ⊥; fair = AskNothing }
+makes_nothing = record { does = λ loaded made said changed. ⊥; stops = λ loaded fault. ⊥; may = WritesNothing; fair = AskNothing }
+
+-- a fault is told as such of an operation, and this is so of that
+abbrev pub ByOp : (OpFault → Type 0) → Fault → Type 0
+ByOp Stops fault = (met : OpFault) × (fault ≡ of_op met) × Stops met
 
 -- the files of a moment record it
 abbrev pub StandsAt : Course → ℕ → Table → Type 0
@@ -200,14 +208,23 @@ pub record IsNothingMade (old new : Table) (lines : List ℕ) (changed : Bool) :
 abbrev pub IsTreeFault : OpFault → Type 0
 IsTreeFault fault = (fault ≡ an_op_fault.OutOfMemory) ⊎ (fault ≡ an_op_fault.TreeFailed)
 
+-- a command that reads the record while the lock is held, refuses words, and writes nothing below `.hg` but the record
+abbrev pub made_so : (Table → Table → List ℕ → Bool → Type 0) → (Table → OpFault → Type 0) → Makes
+made_so Does Stops = record {
+  does = λ loaded made said changed. OnlyRefuses (λ lines. Does loaded made lines changed) said;
+  stops = λ loaded. ByOp (Stops loaded);
+  may = WritesNothing;
+  fair = AskNothing;
+}
+
 -- what a command makes of the record, by what the working copy and the files below `.hg` tell of the call
 abbrev pub makes_of : Command → Watched tree.History → Watched shelf.History → Makes
-makes_of (a_command.Add words) copy files = record { does = IsActed (codes "add") (steps_of a_change.Add) words copy; stops = λ loaded fault. IsTreeFault fault; fair = AskNothing }
-makes_of (a_command.Forget words) copy files = record { does = IsActed (codes "forget") (steps_of a_change.Forget) words copy; stops = λ loaded fault. fault ≡ an_op_fault.OutOfMemory; fair = AskNothing }
-makes_of (a_command.Remove after words) copy files = record { does = IsRemoved after words copy files; stops = StopsRemoving after words copy files; fair = AskNothing }
-makes_of (a_command.Copy source target) copy files = record { does = IsCopied source target copy; stops = λ loaded fault. IsTreeFault fault; fair = AskNothing }
-makes_of (a_command.SetParents p1 p2) copy files = record { does = IsReparented p1 p2 files; stops = λ loaded fault. StopsParents p1 p2 files fault; fair = AskNothing }
-makes_of command copy files = record { does = IsNothingMade; stops = λ loaded fault. ⊥; fair = AskNothing }
+makes_of (a_command.Add words) copy files = made_so (IsActed (codes "add") (steps_of a_change.Add) words copy) (λ loaded. IsTreeFault)
+makes_of (a_command.Forget words) copy files = made_so (IsActed (codes "forget") (steps_of a_change.Forget) words copy) (λ loaded fault. fault ≡ an_op_fault.OutOfMemory)
+makes_of (a_command.Remove after words) copy files = made_so (IsRemoved after words copy files) (StopsRemoving after words copy files)
+makes_of (a_command.Copy source target) copy files = made_so (IsCopied source target copy) (λ loaded. IsTreeFault)
+makes_of (a_command.SetParents p1 p2) copy files = made_so (IsReparented p1 p2 files) (λ loaded. StopsParents p1 p2 files)
+makes_of command copy files = made_so IsNothingMade (λ loaded fault. ⊥)
 
 -- ---- the working copy
 
@@ -278,22 +295,3 @@ abbrev pub AsksBehind : Command → Watched tree.History → Table → shelf.His
 AsksBehind (a_command.Remove after words) copy loaded old new = (new.asked ≡ old.asked) ⊎ (NeedsSome after words loaded copy × AsksStore (span_of loaded old new))
 AsksBehind (a_command.SetParents p1 p2) copy loaded old new = AsksManifests p1 p2 old new
 AsksBehind command copy loaded old new = new.asked ≡ old.asked
-
--- ---- over a table in memory
-
--- what a command did over a table in memory in which nothing was changed before, at each answer: what it made, or why it stopped; and what it asked
-pub record ActsOn (command : Command) (copy : Watched tree.History) (files : Watched shelf.History) (old new : Held) (result : Result (Vec ℕ Global) OpFault) : Type 0 where
-  pub does : old.changed ≡ false → IfOk result (λ lines. (makes_of command copy files).does (table old) (table new) lines.items new.changed)
-  pub stops : old.changed ≡ false → IfErr result ((makes_of command copy files).stops (table old))
-  -- what isn't marked as changed is the same
-  pub same : old.changed ≡ false → OnOk result (new.changed ≡ false → IsSame (table new) (table old))
-  -- each list below which nothing differs is lent still
-  pub lent : OnOk result (KeepsLent old new)
-  pub image : IsOfSameImage old new
-  pub tree : ChangesTree command (table old) copy
-  pub below : shelf.Passes files.old files.new
-  pub asked : IsTrue files.old.told → AsksBehind command copy (table old) files.old files.new
-  -- a device's fault comes only where its count rose; a working copy that failed is told as such
-  pub tree_cause : HasCause copy.before copy.after result (λ e. e ≡ an_op_fault.TreeFailed)
-  pub tree_failed : copy.before < copy.after → result ≡ Err an_op_fault.TreeFailed
-  pub shelf_cause : HasCause files.before files.after result (λ e. e ≡ an_op_fault.ShelfFailed)

@@ -7,11 +7,11 @@ use Rattle.hg_save.specs.Saved.{IsLatest}
 use Rattle.hg_session.specs.Acts.{Makes, makes_nothing}
 use Rattle.hg_session.specs.Call.{Call, Count, Fails, IsLeftAlone, Looked, Saved, Sink}
 use Rattle.hg_session.specs.Cause.{CommandCause}
-use Rattle.hg_session.specs.Change.{IsUnwritten, makes_in}
+use Rattle.hg_session.specs.Change.{IsUnwritten, WroteOnly, come_so}
 use Rattle.hg_session.specs.Changed.{RanChange}
 use Rattle.hg_session.specs.Crash.{IsSafeFromCrashes}
 use Rattle.hg_session.specs.Debug.{RanRecord}
-use Rattle.hg_session.specs.Look.{IsCalm, IsLook}
+use Rattle.hg_session.specs.Look.{IsCalm}
 use Rattle.hg_session.specs.Put.{IsFaultOrMemory, IsSilent, OnStream, Tells}
 use Rattle.hg_session.specs.Status.{RanStatus, noted_in}
 use Rattle.hg_shelf.specs.History.{others}
@@ -38,10 +38,9 @@ pub record IsUndone (met : Fault) (looked : Looked) (saved : Saved) (locks : Cou
   pub idle : IsIdle looked saved locks out
   pub status : code ≡ 255
 
--- a command that isn't carried out is answered as not built, whatever else holds
-pub record IsUnbuilt (call : Call) (code : ℕ) (fault : Option Fault) : Type 0 where
-  pub undone : IsUndone a_fault.NotBuilt call.looked call.saved call.locks call.out call.err code fault
-  pub look : IsLook call code fault
+-- a command that isn't carried out is answered as not built
+abbrev pub IsUnbuilt : Call → ℕ → Option Fault → Type 0
+IsUnbuilt call code fault = IsUndone a_fault.NotBuilt call.looked call.saved call.locks call.out call.err code fault
 
 -- what a command did that ended with this status and this fault, or with none
 abbrev pub Ran : Command → Call → ℕ → Option Fault → Type 0
@@ -58,11 +57,11 @@ Ran (a_command.DebugLoad n) call code fault = IsUnbuilt call code fault
 -- what a command makes of the record
 abbrev pub made_by : (command : Command) (call : Call) (code : ℕ) (fault : Option Fault) → Ran command call code fault → Makes
 made_by (a_command.Status flags) call code fault ran = noted_in call.looked.shelf ran.table ran.notes
-made_by (a_command.Add files) call code fault ran = makes_in call
-made_by (a_command.Forget files) call code fault ran = makes_in call
-made_by (a_command.Remove after files) call code fault ran = makes_in call
-made_by (a_command.Copy source target) call code fault ran = makes_in call
-made_by (a_command.SetParents p1 p2) call code fault ran = makes_in call
+made_by (a_command.Add files) call code fault ran = come_so ran.come
+made_by (a_command.Forget files) call code fault ran = come_so ran.come
+made_by (a_command.Remove after files) call code fault ran = come_so ran.come
+made_by (a_command.Copy source target) call code fault ran = come_so ran.come
+made_by (a_command.SetParents p1 p2) call code fault ran = come_so ran.come
 made_by a_command.DebugDirstate call code fault ran = makes_nothing
 made_by a_command.DebugScript call code fault ran = makes_nothing
 made_by (a_command.DebugLoad n) call code fault ran = makes_nothing
@@ -79,8 +78,8 @@ pub record IsAnswered (call : Call) (code : ℕ) (fault : Option Fault) : Type 0
   pub streams : OnStream fault (call.looked.shelf.after ≡ call.looked.shelf.before)
   -- a working copy that failed is told as such, whatever else failed behind it
   pub tree : call.looked.tree.before < call.looked.tree.after → IsFaultOrMemory fault a_fault.TreeFailed
-  -- want of memory is told only where nothing was written, or where the shelf failed too
-  pub memory : fault ≡ Some a_fault.OutOfMemory → IsUnwritten call.saved.old.history call.saved.new.history ⊎ Fails call.looked.shelf
+  -- want of memory is told only where nothing was written but what its command may, or where the shelf failed too
+  pub memory : fault ≡ Some a_fault.OutOfMemory → WroteOnly (made_by call.command call code fault ran).may call.saved ⊎ Fails call.looked.shelf
   -- the moments so far stay, with what a crash may leave of them
   pub kept : Goes call.saved.old call.saved.new
   -- at each moment of the call a crash leaves a record of what it might have left at the start, of what the call published of what its command made, or of what

@@ -5,8 +5,7 @@ use Rattle.hg_base.specs.Fault.{Rose}
 use Rattle.hg_entry.specs.Table.{Table}
 use Rattle.hg_listing.specs.declared.fault.StatusFault.{StatusFault}
 use Rattle.hg_listing.specs.declared.fault.StatusFault.TheVariants as a_status
-use Rattle.hg_ops.specs.declared.refusal.OpFault.{OpFault}
-use Rattle.hg_ops.specs.declared.refusal.OpFault.TheVariants as an_op_fault
+use Rattle.hg_report.specs.Cause.{of_status}
 use Rattle.hg_report.specs.declared.fault.Fault.{Fault}
 use Rattle.hg_report.specs.declared.fault.Fault.TheVariants as a_fault
 use Rattle.hg_session.specs.Call.{Call, Fails}
@@ -29,8 +28,8 @@ abbrev pub MetByChange : Call → Type 0 → Type 0
 MetByChange call Met = (is_change call.command ≡ true) × Met
 
 -- a fault of the plain store was met by a status, or by a command that changes the record
-abbrev pub MetInStore : Call → StatusFault → OpFault → Type 0
-MetInStore call listed done = MetByStatus call listed ⊎ MetByChange call (MetStop (makes_in call) call.looked.shelf done)
+abbrev pub MetInStore : Call → StatusFault → Type 0
+MetInStore call fault = MetByStatus call fault ⊎ MetByChange call (MetStop (makes_in call) call.looked.shelf (of_status fault))
 
 -- each fault comes only for its cause; want of memory needs none, and no fault of the words comes once they are a command
 abbrev pub CommandCause : Call → Fault → Type 0
@@ -39,11 +38,11 @@ CommandCause call a_fault.NotBuilt = is_done call.command ≡ false
 CommandCause call (a_fault.Docket fault) = LoadMet (a_read.Docket fault) call.looked.shelf
 CommandCause call (a_fault.Node fault) = LoadMet (a_read.Node fault) call.looked.shelf
 CommandCause call (a_fault.DataGone ids) = LoadMet (a_read.DataGone ids) call.looked.shelf
-CommandCause call (a_fault.NoManifest id) = MetInStore call (a_status.NoManifest id) (an_op_fault.NoManifest id)
-CommandCause call (a_fault.ManifestTooLarge size) = MetInStore call (a_status.ManifestTooLarge size) (an_op_fault.ManifestTooLarge size)
-CommandCause call (a_fault.ManifestLine line) = MetInStore call (a_status.ManifestLine line) (an_op_fault.ManifestLine line)
-CommandCause call (a_fault.ManifestOrder line) = MetInStore call (a_status.ManifestOrder line) (an_op_fault.ManifestOrder line)
-CommandCause call (a_fault.NoContents id) = MetInStore call (a_status.NoContents id) (an_op_fault.NoContents id)
+CommandCause call (a_fault.NoManifest id) = MetInStore call (a_status.NoManifest id)
+CommandCause call (a_fault.ManifestTooLarge size) = MetInStore call (a_status.ManifestTooLarge size)
+CommandCause call (a_fault.ManifestLine line) = MetInStore call (a_status.ManifestLine line)
+CommandCause call (a_fault.ManifestOrder line) = MetInStore call (a_status.ManifestOrder line)
+CommandCause call (a_fault.NoContents id) = MetInStore call (a_status.NoContents id)
 CommandCause call (a_fault.IgnoreTooLarge size) = MetByStatus call (a_status.IgnoreTooLarge size)
 CommandCause call (a_fault.IgnoreText at) = MetByStatus call (a_status.IgnoreText at)
 CommandCause call (a_fault.BadGlob line) = MetByStatus call (a_status.BadGlob line)

@@ -1,5 +1,5 @@
 -- What a command that changes the record answers and leaves, and why.
-use Rattle.std.specs.Prelude.{ℕ, ◌≡◌, ◌⊎◌, ◌≤◌, ◌<◌, Bool, true, false, List, [], Option, Some, None, Result, Ok, Err, IsTrue}
+use Rattle.std.specs.Prelude.{ℕ, ◌≡◌, ◌+◌, ◌⊎◌, ◌≤◌, ◌<◌, Bool, true, false, [], Option, Some, None, Ok, IsTrue, IfSome, IsSomeAnd}
 use Rattle.hg_append.specs.declared.encoding.Encoded.{Encoded}
 use Rattle.hg_append.specs.declared.fault.EncodeFault.{EncodeFault}
 use Rattle.hg_append.specs.declared.way.Way.TheVariants as a_way
@@ -10,8 +10,6 @@ use Rattle.hg_entry.specs.Table.{Table}
 use Rattle.hg_nodes.specs.Edits.{IsSame}
 use Rattle.hg_mixed.specs.Held.{Held, table}
 use Rattle.hg_save.specs.Over.{IsEncoded}
-use Rattle.hg_save.specs.declared.publish_fault.PublishFault.{PublishFault}
-use Rattle.hg_save.specs.declared.publish_fault.PublishFault.TheVariants as a_publish_fault
 use Rattle.hg_ops.specs.declared.refusal.OpFault.{OpFault}
 use Rattle.hg_ops.specs.declared.refusal.OpFault.TheVariants as an_op_fault
 use Rattle.hg_append.specs.declared.fault.EncodeFault.TheVariants as an_encode_fault
@@ -20,7 +18,7 @@ use Rattle.hg_report.specs.declared.fault.Fault.{Fault}
 use Rattle.hg_report.specs.declared.fault.Fault.TheVariants as a_fault
 use Rattle.hg_save.specs.Others.{IsFrontOf, KeepsRecords, named_file, nodes_in}
 use Rattle.hg_save.specs.Record.{data_name, shown_in, reading}
-use Rattle.hg_save.specs.Saved.{IsExact, IsLatest, ReadsAsBeforeOr, WritesOnly}
+use Rattle.hg_save.specs.Saved.{IsExact, IsLatest, ReadsAsBeforeOr, TurnsOnce, WritesOnly}
 use Rattle.hg_save.specs.Behind.{IsSolid, KeepsUsed}
 use Rattle.hg_session.specs.Acts.{AsksBehind, ChangesTree, Makes, StandsAt, makes_of}
 use Rattle.hg_session.specs.Call.{Call, Count, Fails, FailsTwice, IsLeftAlone, Saved, Watched}
@@ -28,6 +26,7 @@ use Rattle.hg_session.specs.Load.{of_read}
 use Rattle.hg_session.specs.Loaded.{AsksRecord, IsRead, MetReading}
 use Rattle.hg_session.specs.Locks.{NotReturned, NotTaken, Refused, Returned, TakenAt}
 use Rattle.hg_session.specs.Put.{IsFaultOrMemory}
+use Rattle.hg_session.specs.Told.{Told}
 use Rattle.hg_session.specs.Ways.{Fits, IsMadeOver, IsUnfit, KeepsBy, KeepsUnchanged, LendsUnchanged, Stood, stood_by, stood_in}
 use Rattle.hg_session.specs.declared.change_fault.ChangeFault.{ChangeFault}
 use Rattle.hg_session.specs.declared.change_fault.ChangeFault.TheVariants as a_change_fault
@@ -60,10 +59,40 @@ abbrev pub stood_read : {old new : shelf.History} {loaded : Table} → IsReadFir
 stood_read {new = new} is = stood_by new is.read.tried.last
 
 -- a command made this of the record that was read in the call
-pub record IsMade (Does : Makes) (files : Watched shelf.History) (made : Table) (lines : List ℕ) (changed : Bool) : Type 0 where
+pub record IsMade (Does : Makes) (files : Watched shelf.History) (made : Table) (said : Told) (changed : Bool) : Type 0 where
   pub loaded : Table
   pub read : IsTrue files.old.told → IsReadFirst files.old files.new loaded
-  pub does : Does.does loaded made lines changed
+  pub does : Does.does loaded made said changed
+
+-- the record of this table was read in the call, where the files are told, before the caller made a step
+abbrev pub IsLoadedFirst : Watched shelf.History → Table → Type 0
+IsLoadedFirst files table = IsTrue files.old.told → IsReadFirst files.old files.new table
+
+-- what a command made of the record that it read, what it told, and whether something was changed
+pub record Made : Type 0 where
+  pub table : Table
+  pub said : Told
+  pub changed : Bool
+
+-- how far a command came in a call: which record it read, if it read one, and what it made of that, if it made something
+pub record Come (Does : Makes) (files : Watched shelf.History) : Type 0 where
+  pub read : Option Table
+  pub loaded : IfSome read (IsLoadedFirst files)
+  pub work : Option Made
+  pub does : IfSome work (λ w. IsSomeAnd read (λ t. Does.does t w.table w.said w.changed))
+
+-- what a command makes of the record, where it read this one, and made this of it: of no other one, and nothing else
+abbrev pub only_so : Makes → Option Table → Option Made → Makes
+only_so Does read work = record {
+  does = λ loaded made said changed. (read ≡ Some loaded) × (work ≡ Some (record { table = made; said = said; changed = changed })) × Does.does loaded made said changed;
+  stops = λ loaded fault. (read ≡ Some loaded) × Does.stops loaded fault;
+  may = Does.may;
+  fair = Does.fair;
+}
+
+-- so far as it came
+abbrev pub come_so : {Does : Makes} {files : Watched shelf.History} → Come Does files → Makes
+come_so {Does = Does} come = only_so Does come.read come.work
 
 -- a stretch of a call from where the caller took the lock to where it gave it back; outside it the caller makes no step
 pub record Stretch (old new : shelf.History) : Type 0 where
@@ -82,9 +111,15 @@ pub record Stretch (old new : shelf.History) : Type 0 where
 pub record IsUnwritten (old new : shelf.History) : Type 0 where
   pub none : NoneOurs new old.last new.last
 
--- the caller wrote nothing, unless the shelf failed while the lock was called for or a record was published
-abbrev pub FailsOrUnwritten : shelf.History → shelf.History → ChangeFault → Type 0
-FailsOrUnwritten old new fault = (fault ≡ a_change_fault.ShelfFailed) ⊎ IsUnwritten old new
+-- each step of the caller between two moments is one that its command may make
+abbrev pub OnlyMay : (Scene → Scene → Type 0) → Course → ℕ → ℕ → Type 0
+OnlyMay May c from to = (k : ℕ) → from ≤ k → k < to → c.history.who k ≡ shelf.us → May (scene c k) (scene c (k + 1))
+
+-- the caller wrote nothing, or only what its command may, while the lock was held
+abbrev pub WroteOnly : (Scene → Scene → Type 0) → Saved → Type 0
+WroteOnly May saved =
+    IsUnwritten saved.old.history saved.new.history
+    ⊎ ((stretch : Stretch saved.old.history saved.new.history) × OnlyMay May saved.new stretch.from stretch.to)
 
 -- what an append asks of the moment over which it is made: what a crash may leave is solid, and others kept what was read
 pub record IsFirm (Does : Makes) (c : Course) (from : ℕ) : Type 0 where
@@ -103,8 +138,8 @@ pub record IsPublished (Does : Makes) (c : Course) (from to : ℕ) : Type 0 wher
   pub lends : LendsUnchanged held
   pub made : Table
   pub same : IsSame (table held) made
-  pub lines : List ℕ
-  pub does : Does.does loaded made lines true
+  pub said : Told
+  pub does : Does.does loaded made said true
   -- what is recorded once it is published, and what is written for it
   pub found : Table
   pub is : IsSame found made
@@ -123,16 +158,22 @@ pub record IsPublished (Does : Makes) (c : Course) (from to : ℕ) : Type 0 wher
   -- docket as it was; or all is exactly what is written
   pub torn : (k : ℕ) → from ≤ k → k ≤ to → WritesOnly new (scene c from).files (scene c from).files (scene c k).files
   pub torn_left : (k : ℕ) (f : shelf.Files) → from ≤ k → k ≤ to → (scene c k).leaves f → (d : shelf.Files) × (scene c from).leaves d × WritesOnly new (scene c from).files d f
+  -- and no file shows other bytes on its way than those of the first moment and of the second
+  pub once : (k : ℕ) → from ≤ k → k ≤ to → TurnsOnce new (scene c from).files (scene c k).files (scene c to).files
   -- each step of the caller's keeps to how a record is published, and the bytes that dockets use
   pub orderly : IsLatest (scene c from) → (plan_of held ≡ a_way.Append → IsFirm Does c from) → KeepsRecords shelf.us c from
   pub keeping : (plan_of held ≡ a_way.Append → Does.fair c.history from) → KeepsUsed shelf.us c.history from
   -- the next one finds its identifier free
   pub latest : IsLatest (scene c from) → IsLatest (scene c to)
 
--- a record was published while the lock was held
+-- a record was published while the lock was held, from a moment on before which the caller made only steps there that its command may make
 pub record Publishes (Does : Makes) (saved : Saved) : Type 0 where
   pub stretch : Stretch saved.old.history saved.new.history
-  pub is : IsPublished Does saved.new stretch.from stretch.to
+  pub since : ℕ
+  pub from : stretch.from ≤ since
+  pub upto : since ≤ stretch.to
+  pub may : OnlyMay Does.may saved.new stretch.from since
+  pub is : IsPublished Does saved.new since stretch.to
 
 -- reads show exactly the bytes of a table that was made of a record, written over these files by the better way, and a crash leaves exactly them
 pub record IsWritten (stood : Stood) (made found : Table) (before : shelf.Files) (behind : Scene) : Type 0 where
@@ -151,15 +192,15 @@ pub record IsWritten (stood : Stood) (made found : Table) (before : shelf.Files)
   pub kept_lists : plan_of held ≡ a_way.Append → KeepsUnchanged held behind.files
   pub kept_left : plan_of held ≡ a_way.Append → (f : shelf.Files) → behind.leaves f → KeepsUnchanged held f
 
--- the record was asked for, and behind it, up to a place, what its command needs
-pub record AsksChange (command : Command) (copy : Watched tree.History) (old new : shelf.History) : Type 0 where
+-- the record was asked for, and behind it, up to a place, what its command needs by the one that was read
+pub record AsksChange (command : Command) (copy : Watched tree.History) (read : Option Table) (old new : shelf.History) : Type 0 where
   pub mid : shelf.History
   pub end : shelf.History
   pub past : shelf.Extends mid end
   pub later : shelf.Extends end new
   pub quiet : new.asked ≡ end.asked
   pub load : AsksRecord old mid
-  pub behind : (end.asked ≡ mid.asked) ⊎ ((loaded : Table) × IsReadFirst old new loaded × AsksBehind command copy loaded mid end)
+  pub behind : (end.asked ≡ mid.asked) ⊎ IsSomeAnd read (λ loaded. AsksBehind command copy loaded mid end)
 
 -- at the second of two moments reads show a record of the table that was made of another record, and so does whatever a crash leaves, unless nothing was to be
 -- published
@@ -172,21 +213,16 @@ pub record IsKept (stood : Stood) (loaded made : Table) (saved : Saved) (from to
   pub bytes : IsWritten stood made found (scene saved.new from).files (scene saved.new to) ⊎ IsUnwritten saved.old.history saved.new.history
 
 -- it was done between two moments, and what it made is recorded
-pub record IsDone (Does : Makes) (files : Watched shelf.History) (saved : Saved) (from to : ℕ) (lines : List ℕ) : Type 0 where
+pub record IsDone (Does : Makes) (files : Watched shelf.History) (saved : Saved) (from to : ℕ) (said : Told) : Type 0 where
   pub made : Table
   pub changed : Bool
-  pub is : IsMade Does files made lines changed
+  pub is : IsMade Does files made said changed
   pub fits : (told : IsTrue files.old.told) → ((changed ≡ false) × IsSame made is.loaded) ⊎ Fits (stood_read (is.read told)) made
   pub kept : Undisturbed saved.old saved.new → IsKept (stood_in (scene saved.new from).files) is.loaded made saved from to
   -- where nothing was changed nothing is written
   pub idle : changed ≡ false → IsUnwritten saved.old.history saved.new.history
 
 -- ---- why it met a fault
-
--- why a record wasn't published, among the faults of a change
-abbrev pub of_publish : PublishFault → ChangeFault
-of_publish (a_publish_fault.Encode fault) = a_change_fault.Encode fault
-of_publish a_publish_fault.Failed = a_change_fault.ShelfFailed
 
 -- a fault of a change, as a command tells it
 abbrev pub of_change : ChangeFault → Fault
@@ -196,29 +232,19 @@ of_change (a_change_fault.Encode fault) = of_encode fault
 of_change a_change_fault.Held = a_fault.Held
 of_change a_change_fault.ShelfFailed = a_fault.ShelfFailed
 
--- the one that a change answers, if it does
-abbrev pub fault_of : {A : Type 0} → Result A ChangeFault → Option Fault
-fault_of (Ok done) = None
-fault_of (Err fault) = Some (of_change fault)
-
 -- all that the command says was done, and what it made of the record that was read can't be written over it
 pub record MetUnfit (Does : Makes) (files : Watched shelf.History) (fault : EncodeFault) : Type 0 where
   pub made : Table
-  pub lines : List ℕ
-  pub is : IsMade Does files made lines true
+  pub said : Told
+  pub is : IsMade Does files made said true
   pub unfit : (told : IsTrue files.old.told) → IsUnfit (stood_read (is.read told)) made fault
 
--- the record was read in the call, where the files are told
-abbrev pub IsReadSome : Watched shelf.History → Type 0
-IsReadSome files = IsTrue files.old.told → (loaded : Table) × IsReadFirst files.old files.new loaded
-
 -- the working copy was left alone, or a record was read, and behind it this became of it
-abbrev pub ChangesBehind : Command → Watched tree.History → Watched shelf.History → Type 0
-ChangesBehind command copy files =
-    IsLeftAlone copy ⊎ ((loaded : Table) × (IsTrue files.old.told → IsReadFirst files.old files.new loaded) × ChangesTree command loaded copy)
+abbrev pub ChangesBehind : Command → Watched tree.History → Option Table → Type 0
+ChangesBehind command copy read = IsLeftAlone copy ⊎ IsSomeAnd read (λ loaded. ChangesTree command loaded copy)
 
 -- the record was read in the call, and this stops what is made of it
-pub record MetStop (Does : Makes) (files : Watched shelf.History) (fault : OpFault) : Type 0 where
+pub record MetStop (Does : Makes) (files : Watched shelf.History) (fault : Fault) : Type 0 where
   pub loaded : Table
   pub read : IsTrue files.old.told → IsReadFirst files.old files.new loaded
   pub stops : Does.stops loaded fault
@@ -231,14 +257,14 @@ IsToBlame copy files fault = Unit {0}
 
 -- while the command did what it says
 abbrev pub MetDoing : Makes → Watched tree.History → Watched shelf.History → OpFault → Type 0
-MetDoing Does copy files fault = MetStop Does files fault × IsToBlame copy files fault
+MetDoing Does copy files fault = MetStop Does files (of_op fault) × IsToBlame copy files fault
 
 -- all that the command says was done
 pub record MetMade (Does : Makes) (files : Watched shelf.History) : Type 0 where
   pub made : Table
-  pub lines : List ℕ
+  pub said : Told
   pub changed : Bool
-  pub is : IsMade Does files made lines changed
+  pub is : IsMade Does files made said changed
 
 -- before anything was published, or while it was: what stood in the files, and then the working copy isn't looked at; what the command met; behind all that
 -- it says a table that can't be written, or a shelf that failed, which may be the lock's
@@ -263,37 +289,28 @@ abbrev pub MayFollowWriting : Option Fault → Type 0
 MayFollowWriting None = Unit {0}
 MayFollowWriting (Some fault) = (fault ≡ a_fault.ShelfFailed) ⊎ ((fault ≡ a_fault.ErrFailed) ⊎ (fault ≡ a_fault.OutOfMemory))
 
--- nothing was written, or a record was published while the lock was held
+-- nothing was written but what the command may, or a record was published while the lock was held
 abbrev pub IsSafe : Makes → Saved → Option Fault → Type 0
-IsSafe Does saved fault = IsUnwritten saved.old.history saved.new.history ⊎ (MayFollowWriting fault × Publishes Does saved)
-
--- so it is where the lock is held all along
-abbrev pub IsSafeHeld : Makes → Saved → Option Fault → Type 0
-IsSafeHeld Does saved fault =
-    IsUnwritten saved.old.history saved.new.history ⊎ (MayFollowWriting fault × IsPublished Does saved.new saved.old.history.last saved.new.history.last)
+IsSafe Does saved fault = WroteOnly Does.may saved ⊎ (MayFollowWriting fault × Publishes Does saved)
 
 -- ---- the lock
 
--- the lock was refused, which is counted, and nothing else was done
-pub record WasRefused (copy : Watched tree.History) (files : Watched shelf.History) (locks : Count) (fault : Option Fault) : Type 0 where
+-- the lock was refused, which is counted, nothing was written, and this is so besides
+pub record WasRefused (Besides : Type 0) (files : Watched shelf.History) (locks : Count) : Type 0 where
   pub told : IsTrue files.old.told → Refused files.old files.new
   pub ours : files.new.ours ≡ files.old.ours
   pub counted : Rose locks.before locks.after
   pub unwritten : IsUnwritten files.old files.new
-  pub unasked : files.new.asked ≡ files.old.asked
-  pub unlooked : IsLeftAlone copy
-  pub answer : IsFaultOrMemory fault a_fault.Held
+  pub besides : Besides
 
--- taking it failed, and nothing else was done
-pub record WasNotTaken (copy : Watched tree.History) (files : Watched shelf.History) (locks : Count) (fault : Option Fault) : Type 0 where
+-- taking it failed, nothing was written, and this is so besides
+pub record WasNotTaken (Besides : Type 0) (files : Watched shelf.History) (locks : Count) : Type 0 where
   pub told : IsTrue files.old.told → NotTaken files.old files.new
   pub ours : files.new.ours ≡ files.old.ours
   pub uncounted : locks.after ≡ locks.before
   pub failed : Fails files
   pub unwritten : IsUnwritten files.old files.new
-  pub unasked : files.new.asked ≡ files.old.asked
-  pub unlooked : IsLeftAlone copy
-  pub answer : IsFaultOrMemory fault a_fault.ShelfFailed
+  pub besides : Besides
 
 -- it was taken and given back, after a fault too
 pub record WasReturned (files : Watched shelf.History) (locks : Count) : Type 0 where
@@ -301,21 +318,31 @@ pub record WasReturned (files : Watched shelf.History) (locks : Count) : Type 0 
   pub ours : files.new.ours ≡ false
   pub uncounted : locks.after ≡ locks.before
 
--- it was taken, and giving it back failed, behind a change that was done, or behind a first fault; where the shelf failed both times, both are counted
-pub record WasNotReturned (Does : Makes) (copy : Watched tree.History) (files : Watched shelf.History) (saved : Saved) (locks : Count) (fault : Option Fault) : Type 0 where
+-- it was taken, giving it back failed, and this is so besides
+pub record WasNotReturned (Besides : Type 0) (files : Watched shelf.History) (locks : Count) : Type 0 where
   pub told : IsTrue files.old.told → NotReturned files.old files.new
   pub uncounted : locks.after ≡ locks.before
   pub failed : Fails files
-  pub first : (IsFaultOrMemory fault a_fault.ShelfFailed × (stretch : Stretch saved.old.history saved.new.history) × (lines : List ℕ) × IsDone Does files saved stretch.from stretch.to lines)
-      ⊎ ((met : ChangeFault) × IsFaultOrMemory fault (of_change met) × MetChanging Does copy files met × (of_change met ≡ a_fault.ShelfFailed → FailsTwice files))
+  pub besides : Besides
 
--- the lock was called for once, and one of these came of it
+-- the lock was called for once, and one of these came of it, with what is so besides
+abbrev pub LockEnds : (AtRefusal AtTaking AtReturning : Type 0) → Watched shelf.History → Count → Type 0
+LockEnds AtRefusal AtTaking AtReturning files locks =
+    WasRefused AtRefusal files locks ⊎ (WasNotTaken AtTaking files locks ⊎ (WasReturned files locks ⊎ WasNotReturned AtReturning files locks))
+
+-- a fault is answered, and nothing else was done
+pub record OnlyAnswers (copy : Watched tree.History) (files : Watched shelf.History) (fault : Option Fault) (met : Fault) : Type 0 where
+  pub unasked : files.new.asked ≡ files.old.asked
+  pub unlooked : IsLeftAlone copy
+  pub answer : IsFaultOrMemory fault met
+
+-- the shelf failed behind a change that was done, or behind a first fault; where it failed both times, both are counted
+abbrev pub FailsBehind : Makes → Watched tree.History → Watched shelf.History → Saved → Option Fault → Type 0
+FailsBehind Does copy files saved fault =
+    (IsFaultOrMemory fault a_fault.ShelfFailed × (stretch : Stretch saved.old.history saved.new.history) × (said : Told) × IsDone Does files saved stretch.from stretch.to said)
+    ⊎ ((met : ChangeFault) × IsFaultOrMemory fault (of_change met) × MetChanging Does copy files met × (of_change met ≡ a_fault.ShelfFailed → FailsTwice files))
+
+-- how the lock went in a change: each end of it but one is a fault
 abbrev pub IsLocked : Makes → Watched tree.History → Watched shelf.History → Saved → Count → Option Fault → Type 0
 IsLocked Does copy files saved locks fault =
-    WasRefused copy files locks fault ⊎ (WasNotTaken copy files locks fault ⊎ (WasReturned files locks ⊎ WasNotReturned Does copy files saved locks fault))
-
--- what is answered once the lock was given back, or couldn't be: the first fault
-abbrev pub once_freed : {A U E : Type 0} → Result A ChangeFault → Result U E → Result A ChangeFault
-once_freed (Err fault) freed = Err fault
-once_freed (Ok done) (Err failed) = Err a_change_fault.ShelfFailed
-once_freed (Ok done) (Ok unit) = Ok done
+    LockEnds (OnlyAnswers copy files fault a_fault.Held) (OnlyAnswers copy files fault a_fault.ShelfFailed) (FailsBehind Does copy files saved fault) files locks

@@ -1,19 +1,17 @@
 -- What a crash may leave at each moment of a call, also where others publish before or behind its change.
-use Rattle.std.specs.Prelude.{ℕ, ◌≡◌, ◌⊎◌, ◌≤◌, Option, Some, None, Result, Ok, IfSome, IsSomeAnd}
-use Rattle.std.proofs.Common.{inl, inr}
+use Rattle.std.specs.Prelude.{ℕ, ◌≡◌, ◌⊎◌, ◌≤◌, Option, Some, Result, Ok, IfSome, IsSomeAnd}
 use Rattle.hg_append.specs.declared.way.Way.TheVariants as a_way
 use Rattle.hg_append.specs.Loss.{plan_of}
 use Rattle.hg_entry.specs.Table.{Table}
 use Rattle.hg_image.specs.Reading.{RecordFault}
 use Rattle.hg_nodes.specs.Edits.{IsSame}
-use Rattle.hg_report.specs.declared.fault.Fault.{Fault}
 use Rattle.hg_save.specs.Others.{KeepData, KeepsRecords, WasPublished}
 use Rattle.hg_save.specs.Record.{IsReadable, reading}
 use Rattle.hg_save.specs.Saved.{IsLatest}
 use Rattle.hg_save.specs.Behind.{KeepsUsed}
 use Rattle.hg_session.specs.Acts.{Makes}
 use Rattle.hg_session.specs.Call.{Saved}
-use Rattle.hg_session.specs.Change.{IsKept, IsSafe, IsUnwritten, NoneOurs, Publishes, up_to}
+use Rattle.hg_session.specs.Change.{IsKept, IsUnwritten, NoneOurs, Publishes, up_to}
 use Rattle.hg_session.specs.Ways.{Stood}
 use Rattle.hg_shelf.specs.History.{Files, others, us}
 use Rattle.hg_shelf.specs.Images.{Scene, last_scene, scene}
@@ -26,17 +24,6 @@ MightBeLeft s recorded = (d : Files) × s.leaves d × (recorded ≡ reading d)
 -- whatever a crash leaves is a sound record
 abbrev pub LeavesSound : Scene → Type 0
 LeavesSound s = (c : Files) → s.leaves c → IsReadable (reading c)
-
--- the table that a change published, where it published one
-abbrev pub published_in : (Does : Makes) (saved : Saved) (fault : Option Fault) → IsSafe Does saved fault → Option Table
-published_in Does saved fault (inl none) = None
-published_in Does saved fault (inr (may, is)) = Some is.is.found
-
--- what is asked besides where a change published by an append: that what a crash might have left at the start is sound, and that others kept what was read
--- until the lock was got
-abbrev pub IsFirmFor : (Does : Makes) (saved : Saved) (fault : Option Fault) → IsSafe Does saved fault → Type 0
-IsFirmFor Does saved fault (inl none) = Unit {0}
-IsFirmFor Does saved fault (inr (may, is)) = plan_of is.is.held ≡ a_way.Append → LeavesSound (last_scene saved.old) × Does.fair saved.new.history is.stretch.from
 
 -- that is what is recorded
 abbrev pub IsOwnRecord : Option Table → Option (Result Table RecordFault) → Type 0
@@ -68,11 +55,15 @@ IsOwnOf Does saved own = IfSome own (λ table. (is : Publishes Does saved) × (i
 abbrev pub IsSafeBy : Makes → Saved → Type 0
 IsSafeBy Does saved = (own : Option Table) × IsOwnOf Does saved own × IsCrashSafe own saved
 
--- so it is where others keep to how a record is published, and no docket that a crash might have left at the start was ahead of the one that stood, upon firm
--- ground
+-- what was published was appended to the data file that stood
+abbrev pub Appends : Makes → Saved → Type 0
+Appends Does saved = (is : Publishes Does saved) × (plan_of is.is.held ≡ a_way.Append)
+
+-- so it is where others keep to how a record is published, and no docket that a crash might have left at the start was ahead of the one that stood; where the
+-- call appended, upon firm ground
 abbrev pub IsSafeFromCrashes : Makes → Saved → Type 0
 IsSafeFromCrashes Does saved =
-    Undisturbed saved.old saved.new → KeepsRecords others saved.new saved.old.history.last → IsLatest (last_scene saved.old) → IsFirmGround saved
+    Undisturbed saved.old saved.new → KeepsRecords others saved.new saved.old.history.last → IsLatest (last_scene saved.old) → (Appends Does saved → IsFirmGround saved)
     → IsSafeBy Does saved
 
 -- from a moment to the call's end, whatever a crash leaves records what was made, or what others published since

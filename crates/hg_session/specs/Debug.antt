@@ -7,7 +7,7 @@ use Rattle.hg_save.specs.Record.{record_in}
 use Rattle.hg_session.specs.Loaded.{AsksRecord, IsLoaded, IsUnreadable, MetReading}
 use Rattle.hg_session.specs.Call.{Call, IsLeftAlone, Serves, Sink, Watched}
 use Rattle.hg_session.specs.Load.{of_print}
-use Rattle.hg_session.specs.Look.{IsLook}
+use Rattle.hg_session.specs.Look.{OnlyReads}
 use Rattle.hg_session.specs.Put.{IsFaultOrMemory, IsSilent, LeavesFront, Puts, PutsFront, Tells}
 use Rattle.hg_session.specs.declared.print_fault.PrintFault.{PrintFault}
 use Rattle.hg_session.specs.declared.print_fault.PrintFault.TheVariants as a_print
@@ -73,4 +73,6 @@ pub record RanRecord (call : Call) (code : ℕ) (fault : Option Fault) : Type 0 
   pub alone : IsLeftAlone call.looked.tree
   pub uncounted : call.looked.oversize.after ≡ call.looked.oversize.before
   -- nothing below `.hg` is changed, and no lock asked for
-  pub look : IsLook call code fault
+  pub only : OnlyReads call.saved call.locks
+  -- the status is 0 without a fault
+  pub status : fault ≡ None → code ≡ 0

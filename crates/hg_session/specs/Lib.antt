@@ -1,3 +1,4 @@
+pub mod Acting
 pub mod Acts
 pub mod Anew
 pub mod Answered
@@ -5,10 +6,10 @@ pub mod Call
 pub mod Cause
 pub mod Change
 pub mod Changed
+pub mod Changing
 pub mod Commands
 pub mod Crash
 pub mod Debug
-pub mod Ends
 pub mod Flags
 pub mod Good
 pub mod GoodLaws
@@ -18,8 +19,12 @@ pub mod Load
 pub mod Loaded
 pub mod Locks
 pub mod Look
+pub mod Looking
 pub mod Manifests
 pub mod Put
+pub mod Reading
 pub mod Saving
+pub mod SavingNotes
 pub mod Status
+pub mod Told
 pub mod Ways

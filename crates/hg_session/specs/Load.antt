@@ -1,18 +1,10 @@
 -- The faults of reading the record and of printing it: from those of a load, and as a command tells them.
 use Rattle.hg_report.specs.declared.fault.Fault.{Fault}
 use Rattle.hg_report.specs.declared.fault.Fault.TheVariants as a_fault
-use Rattle.hg_save.specs.declared.load_fault.LoadFault.{LoadFault}
-use Rattle.hg_save.specs.declared.load_fault.LoadFault.TheVariants as a_load
 use Rattle.hg_session.specs.declared.print_fault.PrintFault.{PrintFault}
 use Rattle.hg_session.specs.declared.print_fault.PrintFault.TheVariants as a_print
 use Rattle.hg_session.specs.declared.read_fault.ReadFault.{ReadFault}
 use Rattle.hg_session.specs.declared.read_fault.ReadFault.TheVariants as a_read
-
-abbrev pub by_load : LoadFault → ReadFault
-by_load a_load.OutOfMemory = a_read.OutOfMemory
-by_load (a_load.Docket fault) = a_read.Docket fault
-by_load (a_load.DataGone ids) = a_read.DataGone ids
-by_load a_load.Failed = a_read.Failed
 
 abbrev pub of_read : ReadFault → Fault
 of_read a_read.OutOfMemory = a_fault.OutOfMemory

@@ -1,12 +1,9 @@
 -- What was read of the record, and what reading it answers, by what a load found.
-use Rattle.std.specs.Prelude.{ℕ, ◌≤◌, ◌≡◌, List, ◌∷◌, map, Option, Some, None, Result, Ok, Err, IsTrue, Vec}
+use Rattle.std.specs.Prelude.{ℕ, ◌≤◌, ◌≡◌, List, ◌∷◌, map, Option, Some, None, Result, Ok, Err, IsTrue}
 use Rattle.std.specs.List.{AllByRecursion}
-use Rattle.std.specs.declared.alloc.Global.{Global}
 use Rattle.hg_entry.specs.Table.{Table}
 use Rattle.hg_image.specs.Reading.{RecordFault}
 use Rattle.hg_image.specs.Reading as a_record_fault
-use Rattle.hg_image.specs.declared.fault.NodeFault.{NodeFault}
-use Rattle.hg_report.specs.Debug.{IsDebugText}
 use Rattle.hg_report.specs.declared.fault.Fault.{Fault}
 use Rattle.hg_report.specs.declared.fault.Fault.TheVariants as a_session_fault
 use Rattle.hg_save.specs.Asked.{docket_ask, named_asks}
@@ -46,10 +43,6 @@ pub record AsksRecord (old new : History) : Type 0 where
 
 -- ---- what reading it answers
 
--- bytes are the text of a table
-abbrev pub IsBytesOf : Table → Vec ℕ Global → Type 0
-IsBytesOf table bytes = IsDebugText table bytes.items
-
 -- why the record isn't read where the last try of a load found this, and the dockets of its tries name these identifiers; want of memory
 -- and a failing shelf say nothing of the files
 abbrev pub IsRefused : ReadFault → List (List ℕ) → Option (Result Table RecordFault) → Type 0
@@ -58,16 +51,6 @@ IsRefused (a_fault.Node fault) ids found = found ≡ Some (Err (a_record_fault.N
 IsRefused (a_fault.DataGone gone) ids found = (found ≡ None) × (gone ≡ ids)
 IsRefused a_fault.OutOfMemory ids found = Unit {0}
 IsRefused a_fault.Failed ids found = Unit {0}
-
--- something that is so made of the table that was found, or a fault
-abbrev pub Answers : {X : Type 0} → (Table → X → Type 0) → Result X ReadFault → List (List ℕ) → Option (Result Table RecordFault) → Type 0
-Answers IsOf (Ok made) ids found = (table : Table) × (found ≡ Some (Ok table)) × IsOf table made
-Answers IsOf (Err fault) ids found = IsRefused fault ids found
-
--- the record was read by these tries, and the answer is what the last one found
-pub record Reads {X : Type 0} (IsOf : Table → X → Type 0) (old new : History) (tries : List Try) (result : Result X ReadFault) : Type 0 where
-  pub tried : Tries old new tries
-  pub answer : Answers IsOf result (map (id_by new) tries) (found_by new tried.last)
 
 -- the record wasn't read by these tries, for what the last one found
 pub record Refuses (old new : History) (tries : List Try) (fault : ReadFault) : Type 0 where
@@ -91,10 +74,3 @@ IsUnreadable files (a_session_fault.Docket fault) = record_in files files ≡ So
 IsUnreadable files (a_session_fault.Node fault) = record_in files files ≡ Some (Err (a_record_fault.Node fault))
 IsUnreadable files (a_session_fault.DataGone ids) = (record_in files files ≡ None) × AllByRecursion (λ id. id ≡ id_in files) ids
 IsUnreadable files fault = ⊥
-
--- what the nodes of a data file lead to
-abbrev pub NodesFind : {X : Type 0} → (Table → X → Type 0) → Result X ReadFault → Result Table NodeFault → Type 0
-NodesFind IsOf (Ok made) found = (table : Table) × (found ≡ Ok table) × IsOf table made
-NodesFind IsOf (Err (a_fault.Node fault)) found = found ≡ Err fault
-NodesFind IsOf (Err a_fault.OutOfMemory) found = Unit {0}
-NodesFind IsOf (Err fault) found = ⊥

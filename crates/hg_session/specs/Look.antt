@@ -1,16 +1,12 @@
 -- Where a command meets a fault, and what stands in its streams then; and what every command does that only looks.
-use Rattle.std.specs.Prelude.{ℕ, ◌≡◌, ◌⊎◌, true, false, List, Option, Some, None, Result, Ok, Err, IfErr, IfSome, MatchOption, OnOk}
-use Rattle.hg_report.specs.Fault.{has_line}
+use Rattle.std.specs.Prelude.{ℕ, ◌≡◌, ◌⊎◌, List, Option, None, IfSome}
 use Rattle.hg_report.specs.declared.fault.Fault.{Fault}
 use Rattle.hg_report.specs.declared.fault.Fault.TheVariants as a_fault
-use Rattle.hg_save.specs.Others.{KeepsRecords}
-use Rattle.hg_save.specs.Saved.{IsLatest}
-use Rattle.hg_session.specs.Call.{Call, Count, Looked, Saved, Sink, Watched}
-use Rattle.hg_session.specs.Crash.{IsCrashSafe}
-use Rattle.hg_session.specs.Put.{IsFaultOrMemory, IsSilent, Puts, PutsFront, PutsThen, Tells}
+use Rattle.hg_session.specs.Call.{Count, Looked, Saved, Sink}
+use Rattle.hg_session.specs.Put.{IsSilent, Puts, PutsFront, PutsThen, Tells}
+use Rattle.hg_session.specs.Told.{IsText, Told, errors_of}
 use Rattle.hg_shelf.specs.History as shelf
-use Rattle.hg_shelf.specs.Images.{Goes, last_scene}
-use Rattle.hg_shelf.specs.Polite.{Undisturbed}
+use Rattle.hg_shelf.specs.Images.{Goes}
 
 -- where a command meets a fault: before it prints or saves, while it prints, while it tells its lines behind that, while it saves
 pub data Stage : Type 0 where
@@ -24,15 +20,14 @@ pub data Order : Type 0 where
   saves_first : Order
   saves_last : Order
 
--- what a command is about: why it meets a fault before it prints or saves, what is so where it met none, the text that it prints, where it prints one,
--- the lines behind it, where it tells some, why it meets a fault while it saves, and when it does that
+-- what a command is about: why it meets a fault before it prints or saves, what is so where it met none, what it tells, what is so while it prints that, and
+-- while it tells the lines behind it, why it meets a fault while it saves, and when it does that
 pub record Look : Type 1 where
   pub Before : Fault → Type 0
   pub Ready : Type 0
+  pub Says : Told → Type 0
   pub Printing : Type 0
-  pub Text : List ℕ → Type 0
   pub Telling : Type 0
-  pub Told : List ℕ → Type 0
   pub Saving : Fault → Type 0
   pub order : Order
 
@@ -40,45 +35,39 @@ pub record Look : Type 1 where
 abbrev pub IsOutFault : Fault → Type 0
 IsOutFault fault = (fault ≡ a_fault.OutFailed) ⊎ (fault ≡ a_fault.OutOfMemory)
 
+-- a text is what such a command prints
+pub record IsPrinted (look : Look) (text : List ℕ) : Type 0 where
+  pub said : Told
+  pub says : look.Says said
+  pub is : text ≡ said.printed
+
+-- all of what such a command prints was put, and this is so of what it tells on the error stream
+pub record IsPrintedAll (look : Look) (out : Sink) (Behind : List ℕ → Type 0) : Type 0 where
+  pub said : Told
+  pub says : look.Says said
+  pub printed : Puts (IsText said.printed) out
+  pub behind : Behind (errors_of said)
+
 -- what stands in both streams where saving failed: nothing but the line of the fault, or the whole text, and that line behind the others
 abbrev pub LeftBySaving : Order → Look → Sink → Sink → (Sink → Fault → Type 0) → Fault → Type 0
 LeftBySaving saves_first look out err Line fault = IsSilent out × Line err fault
-LeftBySaving saves_last look out err Line fault = look.Ready × Puts look.Text out × PutsThen look.Told (λ rest. Line rest fault) err
+LeftBySaving saves_last look out err Line fault = look.Ready × IsPrintedAll look out (λ errors. PutsThen (IsText errors) (λ rest. Line rest fault) err)
 
 -- the table of stages: what a fault means, and what stands in standard output and on the error stream, by the stage at which it was met; Line is
 -- what stands of the line of a fault on an error stream that nothing else is told to
 abbrev pub LeavesAt : Look → Sink → Sink → (Sink → Fault → Type 0) → Stage → Fault → Type 0
 LeavesAt look out err Line at_first fault = look.Before fault × IsSilent out × Line err fault
-LeavesAt look out err Line at_printing fault = look.Printing × look.Ready × PutsFront look.Text out × IsOutFault fault × Line err fault
-LeavesAt look out err Line at_telling fault = look.Telling × look.Ready × Puts look.Text out × PutsFront look.Told err × (fault ≡ a_fault.ErrFailed)
+LeavesAt look out err Line at_printing fault = look.Printing × look.Ready × PutsFront (IsPrinted look) out × IsOutFault fault × Line err fault
+LeavesAt look out err Line at_telling fault = look.Telling × look.Ready × IsPrintedAll look out (λ errors. PutsFront (IsText errors) err) × (fault ≡ a_fault.ErrFailed)
 LeavesAt look out err Line at_saving fault = look.Saving fault × LeftBySaving look.order look out err Line fault
 
 -- no fault was met: the text was printed, and the lines behind it were told
 pub record IsShown (look : Look) (out err : Sink) : Type 0 where
   pub ready : look.Ready
-  pub printed : Puts look.Text out
-  pub told : Puts look.Told err
-
--- the line of a fault isn't told yet
-pub record IsUntold (err : Sink) (fault : Fault) : Type 0 where
-  pub told : has_line fault ≡ true
-  pub silent : IsSilent err
-
--- the fault of what was done, where it met one
-abbrev pub fault_in : {A : Type 0} → Result A Fault → Option Fault
-fault_in (Ok done) = None
-fault_in (Err fault) = Some fault
-
--- what was done before the line of a fault is told
-pub record Shows {A : Type 0} (look : Look) (out err : Sink) (result : Result A Fault) : Type 0 where
-  pub done : OnOk result (IsShown look out err)
-  pub left : IfErr result (λ fault. (stage : Stage) × LeavesAt look out err IsUntold stage fault)
-
--- how a command ends that only looks, by what it did: the line of a fault is told, where it has one
-pub record EndsAs (err : Sink) (done : Result Unit Fault) (code : ℕ) (fault : Option Fault) : Type 0 where
-  pub well : OnOk done ((fault ≡ None) × IsSilent err)
-  pub ill : IfErr done (λ f. ((has_line f ≡ true) × IsFaultOrMemory fault f × IfSome fault (Tells err)) ⊎ ((has_line f ≡ false) × (fault ≡ Some f) × IsSilent err))
-  pub status : MatchOption fault (code ≡ 0) (λ f. code ≡ 255)
+  pub said : Told
+  pub says : look.Says said
+  pub printed : Puts (IsText said.printed) out
+  pub told : Puts (IsText (errors_of said)) err
 
 -- a command that ended with this fault, or with none
 pub record Concludes (look : Look) (out err : Sink) (fault : Option Fault) : Type 0 where
@@ -91,8 +80,8 @@ pub record Concludes (look : Look) (out err : Sink) (fault : Option Fault) : Typ
 
 -- the files below `.hg` are only asked: the caller makes no step, its lock stays, the moments so far stay with what a crash may leave, and no lock
 -- was refused
-pub record OnlyReads (files : Watched shelf.History) (saved : Saved) (locks : Count) : Type 0 where
-  pub passes : shelf.Passes files.old files.new
+pub record OnlyReads (saved : Saved) (locks : Count) : Type 0 where
+  pub passes : shelf.Passes saved.old.history saved.new.history
   pub kept : Goes saved.old saved.new
   pub held : locks.after ≡ locks.before
 
@@ -103,14 +92,3 @@ pub record IsCalm (looked : Looked) (output errors : Sink) : Type 0 where
   pub regexps : looked.oversize.after ≡ looked.oversize.before
   pub out : output.after ≡ output.before
   pub err : errors.after ≡ errors.before
-
--- what every such call did
-pub record IsLook (call : Call) (code : ℕ) (fault : Option Fault) : Type 0 where
-  pub only : OnlyReads call.looked.shelf call.saved call.locks
-  -- and a crash leaves nothing that the call published
-  pub crash : Undisturbed call.saved.old call.saved.new → KeepsRecords shelf.others call.saved.new call.saved.old.history.last → IsLatest (last_scene call.saved.old)
-      → IsCrashSafe None call.saved
-  -- where a device failed, or a regexp was too big, there is a fault
-  pub calm : fault ≡ None → IsCalm call.looked call.out call.err
-  -- the status is 0 without a fault, and 255 with one
-  pub status : MatchOption fault (code ≡ 0) (λ f. code ≡ 255)

@@ -1,15 +1,11 @@
 -- What was put into a sink, and what is told of a fault.
-use Rattle.std.specs.Prelude.{ℕ, ◌≡◌, ◌⊎◌, Bool, true, false, List, [], Option, Some, IfSome}
+use Rattle.std.specs.Prelude.{ℕ, ◌≡◌, ◌⊎◌, Bool, true, false, List, Option, Some, IfSome}
 use Rattle.hg_base.specs.Fault.{Rose}
 use Rattle.hg_report.specs.Fault.{line_of}
 use Rattle.hg_report.specs.declared.fault.Fault.{Fault}
 use Rattle.hg_report.specs.declared.fault.Fault.TheVariants as a_fault
 use Rattle.hg_session.specs.Call.{Fails, Sink}
 use Rattle.hg_stream.specs.Stream.{Grown, GrownByFront}
-
--- no text at all
-abbrev pub IsEmpty : List ℕ → Type 0
-IsEmpty text = text ≡ []
 
 -- a text was put, and the sink never failed
 pub record Puts (IsText : List ℕ → Type 0) (sink : Sink) : Type 0 where

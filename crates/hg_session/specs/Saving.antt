@@ -1,92 +1,41 @@
 -- What a status saves of what it noted, and what comes of it.
-use Rattle.std.specs.Prelude.{ℕ, ◌≡◌, ◌⊎◌, ◌≤◌, List, [], ◌∷◌, Option, Some, None, Result, Ok, Err, IsTrue}
+use Rattle.std.specs.Prelude.{ℕ, ◌≡◌, ◌⊎◌, ◌≤◌, [], Option, Some, None, Ok}
 use Rattle.std.proofs.Common.{inl, inr}
 use Rattle.hg_append.specs.declared.fault.EncodeFault.{EncodeFault}
 use Rattle.hg_append.specs.declared.fault.EncodeFault.TheVariants as an_encode
 use Rattle.hg_append.specs.declared.way.Way.TheVariants as a_way
 use Rattle.hg_append.specs.Loss.{plan_of}
-use Rattle.hg_base.specs.Fault.{Rose}
-use Rattle.hg_docket.specs.Docket.{docket_of}
 use Rattle.hg_entry.specs.Table.{Table}
-use Rattle.hg_image.specs.Reading.{data_reading}
-use Rattle.hg_image.specs.Rows.{rows_of}
 use Rattle.hg_nodes.specs.Edits.{IsSame}
-use Rattle.hg_mixed.specs.Held.{Held, has_list, image_table, is_lent, table}
-use Rattle.hg_mixed.specs.Shown.{ArePlacesOf}
+use Rattle.hg_mixed.specs.Held.{Held, table}
 use Rattle.hg_report.specs.declared.fault.Fault.{Fault}
 use Rattle.hg_report.specs.declared.fault.Fault.TheVariants as a_fault
-use Rattle.hg_save.specs.Loads.{IsTry, Loads, Try, files_at, found_by}
+use Rattle.hg_save.specs.Loads.{IsTry, Try, files_at, found_by}
 use Rattle.hg_save.specs.Others.{KeepData}
 use Rattle.hg_save.specs.Record.{docket_in}
-use Rattle.hg_save.specs.declared.loaded.Loaded.{Loaded}
-use Rattle.hg_session.specs.Acts.{Makes}
-use Rattle.hg_session.specs.Call.{Count, Fails, FailsTwice, Saved, Watched}
-use Rattle.hg_session.specs.Change.{IsKept, IsSafe, IsSafeHeld, IsUnwritten, Stretch, WasReturned, up_to}
+use Rattle.hg_session.specs.Acts.{Makes, WritesNothing}
+use Rattle.hg_session.specs.Call.{Count, FailsTwice, Saved, Watched}
+use Rattle.hg_session.specs.Change.{IsKept, IsUnwritten, LockEnds, Stretch, up_to}
 use Rattle.hg_session.specs.Crash.{IsLasting}
-use Rattle.hg_session.specs.Locks.{NotReturned, NotTaken, Refused}
 use Rattle.hg_session.specs.Look.{OnlyReads}
 use Rattle.hg_session.specs.Put.{IsFaultOrMemory}
 use Rattle.hg_session.specs.Ways.{IsMadeOver, IsUnfit, stood_by}
-use Rattle.hg_session.specs.declared.change_fault.ChangeFault.{ChangeFault}
-use Rattle.hg_session.specs.declared.change_fault.ChangeFault.TheVariants as a_change
-use Rattle.hg_session.specs.declared.save_fault.SaveFault.{SaveFault}
-use Rattle.hg_session.specs.declared.save_fault.SaveFault.TheVariants as a_save
-use Rattle.hg_shelf.specs.History.{Extends, History}
+use Rattle.hg_shelf.specs.History.{History}
 use Rattle.hg_shelf.specs.Polite.{Undisturbed}
 use Rattle.hg_walk.specs.Applying.{IsBlank}
 use Rattle.hg_walk.specs.Notes.{NotesData, applied}
 
--- ---- faults
-
--- a fault of saving, as a command tells it
-abbrev pub of_save : SaveFault → Fault
-of_save a_save.OutOfMemory = a_fault.OutOfMemory
-of_save a_save.ShelfFailed = a_fault.ShelfFailed
-
--- the one that saving answers, if it does
-abbrev pub save_fault : Result Unit SaveFault → Option Fault
-save_fault (Ok done) = None
-save_fault (Err fault) = Some (of_save fault)
-
--- a record that can't be written isn't saved, which is no fault
-abbrev pub unless_full : Result Unit ChangeFault → Result Unit SaveFault
-unless_full (Ok done) = Ok done
-unless_full (Err (a_change.Encode an_encode.OutOfMemory)) = Err a_save.OutOfMemory
-unless_full (Err (a_change.Encode fault)) = Ok tt
-unless_full (Err fault) = Err a_save.ShelfFailed
-
--- the first fault of saving and of giving the lock back
-abbrev pub once_saved : {U E : Type 0} → Result Unit SaveFault → Result U E → Result Unit SaveFault
-once_saved (Err fault) freed = Err fault
-once_saved (Ok done) (Err failed) = Err a_save.ShelfFailed
-once_saved (Ok done) (Ok unit) = Ok done
-
 -- ---- what is saved
-
--- a table in memory was opened from a record of this table that was loaded since a start, and all its lists are lent
-pub record IsOpenedSince (start now : History) (loaded : Loaded) (recorded : Table) (opened : Held) : Type 0 where
-  pub mid : History
-  pub front : Extends start mid
-  pub past : Extends mid now
-  pub loads : IsTrue start.told → (tried : Try) × Loads start mid (tried ∷ []) (Ok loaded)
-  pub nodes : data_reading (docket_of loaded.shown.items) loaded.nodes.items ≡ Ok recorded
-  pub same : IsSame (table opened) recorded
-  pub image : IsSame (table opened) (image_table opened)
-  pub lent : (dir : Option (List ℕ)) → is_lent opened dir ≡ has_list (rows_of opened.docket opened.bytes) dir
-  pub placed : ArePlacesOf (rows_of opened.docket opened.bytes) opened
 
 -- what a status makes of the record of this table, which it read in a call: the same with what it noted. It was read before the lock was taken, so
 -- others are asked to keep the data that dockets name until then
 abbrev pub noted_makes : Watched History → Table → NotesData → Makes
 noted_makes files recorded notes = record {
-  does = λ loaded made lines changed. IsSame loaded recorded × IsSame made (applied notes recorded) × (lines ≡ []);
+  does = λ loaded made said changed. IsSame loaded recorded × IsSame made (applied notes recorded) × (said.refused ≡ []);
   stops = λ loaded fault. ⊥;
+  may = WritesNothing;
   fair = λ h at. KeepData (up_to at h) files.old.last;
 }
-
--- the try that read the record from which a table in memory was opened
-abbrev pub IsTryOf : (start now : History) (loaded : Loaded) (recorded : Table) (opened : Held) → IsOpenedSince start now loaded recorded opened → Try → Type 0
-IsTryOf start now loaded recorded opened since tried = (told : IsTrue start.told) × (tried ≡ (since.loads told).1.tried.last)
 
 -- between two moments another docket stood than the one that was read with the record since a start, by the record's own try
 pub record AnotherStood (Own : Try → Type 0) (start new : History) (recorded : Table) (from to : ℕ) : Type 0 where
@@ -138,11 +87,6 @@ LastsNoted Own start recorded notes saved from to (inr over) =
     (fair : plan_of over.held ≡ a_way.Append → KeepData (up_to from saved.new.history) start.last)
     → IsLasting (stood_by saved.new.history over.tried) recorded (applied notes recorded) saved from to (over.kept fair)
 
--- so it is where the lock is held all along, and where others only read meanwhile
-pub record SavesHeld (Own : Try → Type 0) (start : History) (files : Watched History) (saved : Saved) (recorded : Table) (notes : NotesData) (fault : Option Fault) : Type 0 where
-  pub safe : Undisturbed saved.old saved.new → IsSafeHeld (noted_makes (record files { old = start }) recorded notes) saved fault
-  pub ends : fault ≡ None → Undisturbed saved.old saved.new → IsNoted Own start recorded notes saved saved.old.history.last saved.new.history.last
-
 -- and so it is between taking the lock and giving it back
 abbrev pub IsNotedHeld : (Try → Type 0) → History → Table → NotesData → Saved → Type 0
 IsNotedHeld Own start recorded notes saved =
@@ -150,48 +94,18 @@ IsNotedHeld Own start recorded notes saved =
 
 -- ---- the lock
 
--- the lock was refused, which is counted and no fault, and nothing was written
-pub record WasPassedOver (files : Watched History) (locks : Count) (fault : Option Fault) : Type 0 where
-  pub told : IsTrue files.old.told → Refused files.old files.new
-  pub ours : files.new.ours ≡ files.old.ours
-  pub counted : Rose locks.before locks.after
-  pub unwritten : IsUnwritten files.old files.new
-  pub answer : fault ≡ None
-
--- taking it failed, and nothing was written
-pub record WasNotGot (files : Watched History) (locks : Count) (fault : Option Fault) : Type 0 where
-  pub told : IsTrue files.old.told → NotTaken files.old files.new
-  pub ours : files.new.ours ≡ files.old.ours
-  pub uncounted : locks.after ≡ locks.before
-  pub failed : Fails files
-  pub unwritten : IsUnwritten files.old files.new
-  pub answer : IsFaultOrMemory fault a_fault.ShelfFailed
-
--- it was taken, and giving it back failed, behind notes that were saved, or behind a first fault; where the shelf failed both times, both are counted
-pub record WasNotGivenBack (Own : Try → Type 0) (start : History) (files : Watched History) (saved : Saved) (locks : Count) (recorded : Table) (notes : NotesData) (fault : Option Fault) : Type 0 where
-  pub told : IsTrue files.old.told → NotReturned files.old files.new
-  pub uncounted : locks.after ≡ locks.before
-  pub failed : Fails files
-  pub first : (IsFaultOrMemory fault a_fault.ShelfFailed × (IsNotedHeld Own start recorded notes saved ⊎ FailsTwice files)) ⊎ (fault ≡ Some a_fault.OutOfMemory)
+-- the shelf failed behind notes that were saved, or behind a first fault; where it failed both times, both are counted
+abbrev pub FailsBehindNotes : (Try → Type 0) → History → Watched History → Saved → Table → NotesData → Option Fault → Type 0
+FailsBehindNotes Own start files saved recorded notes fault =
+    (IsFaultOrMemory fault a_fault.ShelfFailed × (IsNotedHeld Own start recorded notes saved ⊎ FailsTwice files)) ⊎ (fault ≡ Some a_fault.OutOfMemory)
 
 -- nothing was to be saved: without a fault nothing was noted
 abbrev pub IsNotDue : NotesData → Option Fault → Type 0
 IsNotDue notes None = IsBlank notes
 IsNotDue notes (Some fault) = Unit {0}
 
--- nothing was to be saved, and it wasn't called for; or it was called for once, and one of these came of it
+-- nothing was to be saved, and the lock wasn't called for; or it was called for once, and one of these came of it: that it was refused is no fault
 abbrev pub IsLockedToSave : (Try → Type 0) → History → Watched History → Saved → Count → Table → NotesData → Option Fault → Type 0
 IsLockedToSave Own start files saved locks recorded notes fault =
-    (IsNotDue notes fault × OnlyReads files saved locks)
-    ⊎ (WasPassedOver files locks fault ⊎ (WasNotGot files locks fault ⊎ (WasReturned files locks ⊎ WasNotGivenBack Own start files saved locks recorded notes fault)))
-
--- ---- all of it
-
--- what became of notes over a record of this table, which was read since a start
-pub record SavesNotes (Own : Try → Type 0) (start : History) (files : Watched History) (saved : Saved) (locks : Count) (recorded : Table) (notes : NotesData) (fault : Option Fault) : Type 0 where
-  -- where nothing was noted nothing below `.hg` is touched
-  pub idle : IsBlank notes → OnlyReads files saved locks × (fault ≡ None)
-  pub safe : Undisturbed saved.old saved.new → IsSafe (noted_makes (record files { old = start }) recorded notes) saved fault
-  pub locked : IsLockedToSave Own start files saved locks recorded notes fault
-  -- without a fault: nothing was noted, or the lock was refused, and else this came of it
-  pub saves : fault ≡ None → IsBlank notes ⊎ (Rose locks.before locks.after ⊎ IsNotedHeld Own start recorded notes saved)
+    (IsNotDue notes fault × OnlyReads saved locks)
+    ⊎ LockEnds (fault ≡ None) (IsFaultOrMemory fault a_fault.ShelfFailed) (FailsBehindNotes Own start files saved recorded notes fault) files locks

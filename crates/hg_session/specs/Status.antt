@@ -1,5 +1,5 @@
 -- What a status prints, tells and answers.
-use Rattle.std.specs.Prelude.{ℕ, ◌≡◌, ◌≤◌, ◌<◌, ◌⊎◌, true, List, Option, Some, None, Result, Ok, Err, IfOk, IfSome, IsSomeAnd, IsTrue, OnOk}
+use Rattle.std.specs.Prelude.{ℕ, ◌≡◌, ◌≤◌, ◌⊎◌, true, List, [], Option, Some, None, Ok, Err, IfSome, IsSomeAnd, IsTrue}
 use Rattle.hg_base.specs.Fault.{Rose}
 use Rattle.hg_base.specs.declared.id.Id20.{Id20}
 use Rattle.hg_base.specs.declared.stat.Stat.{Stat}
@@ -7,7 +7,6 @@ use Rattle.hg_compare.specs.Alike.{contents_name, is_alike}
 use Rattle.hg_entry.specs.Table.{Table}
 use Rattle.hg_flat.specs.First.{IsBefore}
 use Rattle.hg_flat.specs.Listing.{wants_bytes}
-use Rattle.hg_flat.specs.Needed.{AsksNeeded}
 use Rattle.hg_flat.specs.Parent.{IsServed, manifest_at, row_of}
 use Rattle.hg_flat.specs.Patterns.{Warns, needs_patterns}
 use Rattle.hg_listing.specs.declared.fault.StatusFault.{StatusFault}
@@ -30,21 +29,19 @@ use Rattle.hg_report.specs.declared.fault.Fault.TheVariants as a_fault
 use Rattle.hg_save.specs.Loads.{Try}
 use Rattle.hg_save.specs.Others.{KeepsRecords}
 use Rattle.hg_save.specs.Record.{record_in}
-use Rattle.hg_save.specs.Saved.{IsLatest}
 use Rattle.hg_session.specs.Acts.{Makes, makes_nothing}
-use Rattle.hg_session.specs.Call.{Call, Count, Fails, Looked, Saved, Serves, Sink, Watched}
-use Rattle.hg_session.specs.Change.{IsReadFirst, IsSafe, IsUnwritten}
-use Rattle.hg_session.specs.Crash.{IsCrashSafe, IsFirmFor, published_in}
+use Rattle.hg_session.specs.Call.{Call, Count, Fails, Looked, Saved, Serves, Watched}
+use Rattle.hg_session.specs.Change.{IsLoadedFirst, IsSafe, IsUnwritten}
 use Rattle.hg_session.specs.Flags.{style_of, wanted_of}
-use Rattle.hg_session.specs.Listed.{AsksBelow, AsksLittle, AsksOver, AsksOwn, AsksPlain, IsAskedAt, IsListable, IsListed, IsListedFor, IsOwn, IsRightFor, ReadsLittle, StatusCause, first_parent, status_over}
+use Rattle.hg_session.specs.Listed.{AsksBelow, AsksLittle, AsksOwn, IsAskedAt, IsListable, IsListed, IsListedFor, IsOwn, IsRightFor, ReadsLittle, StatusCause, first_parent}
 use Rattle.hg_session.specs.Load.{of_read}
-use Rattle.hg_session.specs.Loaded.{IsLoaded, IsUnreadable, MetReading}
-use Rattle.hg_session.specs.Look.{IsCalm, Look, Concludes, OnlyReads, Shows, fault_in, saves_last}
-use Rattle.hg_session.specs.Put.{IsFaultOrMemory, LeavesFront, OnStream, Puts}
+use Rattle.hg_session.specs.Loaded.{IsUnreadable, MetReading}
+use Rattle.hg_session.specs.Look.{Look, Concludes, OnlyReads, saves_last}
+use Rattle.hg_session.specs.Put.{IsFaultOrMemory, LeavesFront, Puts}
+use Rattle.hg_session.specs.Told.{Told, status_of}
 use Rattle.hg_session.specs.Saving.{IsLockedToSave, IsNotedHeld, LastsNoted, noted_makes}
 use Rattle.hg_session.specs.declared.read_fault.ReadFault.{ReadFault}
 use Rattle.hg_shelf.specs.History as shelf
-use Rattle.hg_shelf.specs.Images.{Goes, last_scene}
 use Rattle.hg_shelf.specs.Polite.{StaysPlain, Undisturbed}
 use Rattle.hg_tree.specs.History as tree
 use Rattle.hg_tree.specs.Honest.{IsHonest}
@@ -81,12 +78,6 @@ pub record IsNotedBy (looked : Looked) (wanted : Wanted) (table : Table) (notes 
 abbrev pub IsNotedByFor : Looked → Wanted → Table → NotesData → Type 0
 IsNotedByFor looked wanted table notes = wants_bytes wanted ≡ true → IsNotedBy looked wanted table notes
 
--- what a listing over a table notes, only what is needed
-pub record IsNotedFor (looked : Looked) (table : Table) (notes : NotesData) : Type 0 where
-  pub needed : AreNeeded table notes
-  pub noted : AreNoted looked.tree.old looked.tree.new notes
-  pub earned : AreEarnedFor looked table notes
-
 -- what a listing over a table came to once it met no fault: the patterns were read and what was compared was there; where nobody else steps, the patterns were
 -- read exactly where they are needed and stand there; and all was noted that a second status needs, path by path whoever else steps
 pub record IsWorked (looked : Looked) (wanted : Wanted) (table : Table) (notes : NotesData) : Type 0 where
@@ -97,17 +88,15 @@ pub record IsWorked (looked : Looked) (wanted : Wanted) (table : Table) (notes :
 
 -- ---- what is printed
 
--- the text of rows that are the full listing for paths that are left alone, by the table that was read
-pub record IsRowsText (flags : StatusFlags) (looked : Looked) (table : Option Table) (text : List ℕ) : Type 0 where
+-- rows are printed that are the full listing for paths that are left alone, by the table that was read; what the listing warns of is told, and no word refused
+pub record SaysRows (flags : StatusFlags) (looked : Looked) (table : Option Table) (said : Told) : Type 0 where
   pub rows : List Row
   pub listing : IsSomeAnd table (IsListedFor looked (wanted_of flags) rows)
-  pub is : text ≡ text_of (style_of flags) rows
-
--- the text of what a listing warns of
-pub record IsWarningText (wanted : Wanted) (copy : Watched tree.History) (text : List ℕ) : Type 0 where
+  pub printed : said.printed ≡ text_of (style_of flags) rows
   pub warnings : List Warning
-  pub are : Warns wanted copy.old copy.new warnings
-  pub is : text ≡ warnings_text warnings
+  pub are : Warns (wanted_of flags) looked.tree.old looked.tree.new warnings
+  pub warned : said.warned ≡ warnings_text warnings
+  pub unrefused : said.refused ≡ []
 
 -- the text of the full listing that these flags ask for
 pub record IsFullText (flags : StatusFlags) (files : shelf.Files) (moment : Moment) (text : List ℕ) : Type 0 where
@@ -124,12 +113,6 @@ abbrev pub ListingCause : Looked → Wanted → Option Table → Fault → Type 
 ListingCause looked wanted table fault =
     ((f : ReadFault) × (fault ≡ of_read f) × MetReading looked.shelf f) ⊎ ((f : StatusFault) × (fault ≡ of_status f) × IsSomeAnd table (λ t. StatusCause looked wanted t f))
 
--- below `.hg` the caller only asked: it wrote nothing and called for no lock
-pub record OnlyAsksBelow (saved : Saved) (locks : Count) : Type 0 where
-  pub passes : shelf.Passes saved.old.history saved.new.history
-  pub kept : Goes saved.old saved.new
-  pub held : locks.after ≡ locks.before
-
 -- why saving met a fault: the shelf failed, for whose line there may be no memory, or there was none and nothing was written
 abbrev pub MetSaving : Watched shelf.History → Saved → Fault → Type 0
 MetSaving files saved fault =
@@ -139,26 +122,12 @@ MetSaving files saved fault =
 -- a fault before that, it has only asked below `.hg`, and called for no lock; once it listed, what that came to holds whatever it meets behind it
 abbrev pub status_look : StatusFlags → Looked → Saved → Count → Option Table → NotesData → Look
 status_look flags looked saved locks table notes = record {
-  Before = λ fault. OnlyAsksBelow saved locks × ListingCause looked (wanted_of flags) table fault;
+  Before = λ fault. OnlyReads saved locks × ListingCause looked (wanted_of flags) table fault;
   Ready = IsSomeAnd table (λ t. IsWorked looked (wanted_of flags) t notes);
-  Printing = OnlyAsksBelow saved locks;
-  Text = IsRowsText flags looked table;
-  Telling = OnlyAsksBelow saved locks;
-  Told = IsWarningText (wanted_of flags) looked.tree;
+  Says = SaysRows flags looked table;
+  Printing = OnlyReads saved locks;
+  Telling = OnlyReads saved locks;
   Saving = MetSaving looked.shelf saved;
-  order = saves_last;
-}
-
--- the part of it that lists, prints and tells, over a table that was read before
-abbrev pub show_look : StatusFlags → Looked → Table → NotesData → Look
-show_look flags looked table notes = record {
-  Before = λ fault. (f : StatusFault) × (fault ≡ of_status f) × StatusCause looked (wanted_of flags) table f;
-  Ready = IsWorked looked (wanted_of flags) table notes;
-  Printing = Unit {0};
-  Text = IsRowsText flags looked (Some table);
-  Telling = Unit {0};
-  Told = IsWarningText (wanted_of flags) looked.tree;
-  Saving = λ fault. ⊥;
   order = saves_last;
 }
 
@@ -224,37 +193,14 @@ IsExpected wanted files moment (Some fault) = IsUnreadable files fault
 
 -- ---- the command
 
--- a listing over a table, its text and its warnings, and what is noted, or a fault, before its line is told
-pub record ShowsTable (flags : StatusFlags) (looked : Looked) (table : Table) (out err : Sink) (result : Result NotesData Fault) : Type 0 where
-  pub tree : tree.Passes looked.tree.old looked.tree.new
-  pub notes : NotesData
-  pub noted : IsNotedFor looked table notes
-  pub shows : Shows (show_look flags looked table notes) out err result
-  pub answered : IfOk result (λ is. is ≡ notes)
-  pub asked : IsTrue looked.tree.old.told → AsksOver table (wanted_of flags) looked.tree
-  pub store : IsTrue looked.shelf.old.told → AsksPlain looked (wanted_of flags) table looked.shelf.old looked.shelf.new
-  pub reads : IsTrue looked.tree.old.told → AsksNeeded (status_over looked (wanted_of flags) table)
-  pub calm : OnOk result (IsCalm looked out err)
-  pub streams : OnStream (fault_in result) (looked.shelf.after ≡ looked.shelf.before)
-  pub tree_failed : looked.tree.before < looked.tree.after → fault_in result ≡ Some a_fault.TreeFailed
-
--- the call, with the files below `.hg` up to a history at which the listing ended, behind which times were saved
-abbrev pub listed_to : shelf.History → Looked → Looked
-listed_to end looked = record looked { shelf = record looked.shelf { new = end } }
-
 -- what a status makes of the record: where a table was read, it with the notes
 abbrev pub noted_in : Watched shelf.History → Option Table → NotesData → Makes
 noted_in files None notes = makes_nothing
 noted_in files (Some table) notes = noted_makes files table notes
 
--- the last try by which a table was read
-abbrev pub ByLoaded : (files : Watched shelf.History) (table : Option Table) → IfSome table (IsLoaded files) → Try → Type 0
-ByLoaded files None loaded tried = ⊥
-ByLoaded files (Some table) loaded tried = (told : IsTrue files.old.told) × (tried ≡ (loaded told).tried.last)
-
 -- what came of the lock: where no table was read it wasn't called for
 abbrev pub IsLockedLast : (Try → Type 0) → Watched shelf.History → Saved → Count → Option Table → NotesData → Option Fault → Type 0
-IsLockedLast Own files saved locks None notes fault = OnlyReads files saved locks
+IsLockedLast Own files saved locks None notes fault = OnlyReads saved locks
 IsLockedLast Own files saved locks (Some table) notes fault = IsLockedToSave Own files.old files saved locks table notes fault
 
 -- what becomes of the notes of a status that ended with this fault or with none, over the record that was read by its own try
@@ -262,39 +208,13 @@ pub record SavesLast (Own : Try → Type 0) (files : Watched shelf.History) (sav
   -- whatever the answer, nothing was written, or the record that was read, with the notes, was published while the lock was held
   pub safe : Undisturbed saved.old saved.new → IsSafe (noted_in files table notes) saved fault
   -- where nothing is noted, or a fault was met before, the files below `.hg` were only asked, and no lock was called for
-  pub idle : IsBlank notes → OnlyReads files saved locks
+  pub idle : IsBlank notes → OnlyReads saved locks
   pub locked : IsLockedLast Own files saved locks table notes fault
   -- without a fault the record with the notes is what is recorded where the lock was given back, unless nothing was noted, the lock was refused, or another
   -- docket stood, or what would be written is too large, or no identifier is left
   pub saves : fault ≡ None → IsSomeAnd table (λ t. IsBlank notes ⊎ (Rose locks.before locks.after ⊎ IsNotedHeld Own files.old t notes saved))
-  pub kept : Goes saved.old saved.new
 
--- all of a status, or a fault, before its line is told
-pub record DoesStatus (flags : StatusFlags) (looked : Looked) (saved : Saved) (locks : Count) (out err : Sink) (result : Result Unit Fault) : Type 0 where
-  pub end : shelf.History
-  pub passes : shelf.Passes looked.shelf.old end
-  pub later : shelf.Extends end looked.shelf.new
-  pub table : Option Table
-  pub loaded : IfSome table (IsLoaded (listed_to end looked).shelf)
-  pub tree : tree.Passes looked.tree.old looked.tree.new
-  pub notes : NotesData
-  pub shows : Shows (status_look flags (listed_to end looked) saved locks table notes) out err result
-  pub asked : AsksLittle looked (wanted_of flags) table
-  pub reads : ReadsLittle looked (wanted_of flags) table
-  pub below : IsTrue looked.shelf.old.told → AsksBelow looked (wanted_of flags) table
-  pub calm : OnOk result (IsCalm looked out err)
-  pub streams : OnStream (fault_in result) (looked.shelf.after ≡ looked.shelf.before)
-  pub tree_failed : looked.tree.before < looked.tree.after → fault_in result ≡ Some a_fault.TreeFailed
-  pub needed : IfSome table (λ t. AreNeeded t notes)
-  pub noted : AreNoted looked.tree.old looked.tree.new notes
-  pub earned : IfSome table (λ t. AreEarnedFor looked t notes)
-  pub saving : SavesLast (ByLoaded (listed_to end looked).shelf table loaded) looked.shelf saved locks table notes (fault_in result)
-
--- a table was read in the call, before the caller made a step, where the files are told
-abbrev pub IsLoadedFirst : Watched shelf.History → Table → Type 0
-IsLoadedFirst files table = IsTrue files.old.told → IsReadFirst files.old files.new table
-
--- the last try by which it was
+-- the last try by which a table was read first
 abbrev pub ByLoadedFirst : (files : Watched shelf.History) (table : Option Table) → IfSome table (IsLoadedFirst files) → Try → Type 0
 ByLoadedFirst files None loaded tried = ⊥
 ByLoadedFirst files (Some table) loaded tried = (told : IsTrue files.old.told) × (tried ≡ (loaded told).read.tried.last)
@@ -338,9 +258,5 @@ pub record RanStatus (flags : StatusFlags) (call : Call) (code : ℕ) (fault : O
   pub lasts : (calm : Undisturbed call.saved.old call.saved.new) → KeepsRecords shelf.others call.saved.new call.saved.old.history.last
       → IfSome table (λ t. (noted : IsNotedHeld (ByLoadedFirst call.looked.shelf table loaded) call.looked.shelf.old t notes call.saved)
       → LastsNoted (ByLoadedFirst call.looked.shelf table loaded) call.looked.shelf.old t notes call.saved (noted calm).0.from (noted calm).0.to (noted calm).1)
-  -- and where others keep to how a record is published, and for an append where it is made upon firm ground: at each moment since the call's start a crash
-  -- leaves a record of what it might have left then, of what the call published, or of what others published since
-  pub crash : (calm : Undisturbed call.saved.old call.saved.new) → KeepsRecords shelf.others call.saved.new call.saved.old.history.last → IsLatest (last_scene call.saved.old)
-      → IsFirmFor (noted_in call.looked.shelf table notes) call.saved fault (saving.safe calm) → IsCrashSafe (published_in (noted_in call.looked.shelf table notes) call.saved fault (saving.safe calm)) call.saved
-  -- the status is 0 without a fault
-  pub status : fault ≡ None → code ≡ 0
+  -- without a fault the status is 0, as no word is refused
+  pub ends : (none : fault ≡ None) → code ≡ status_of (looks.done none).said.refused

@@ -7,7 +7,9 @@ ghost use Rattle.hg_nodes.specs.Edits.{IsFormed, IsSame, Marks};
 ghost use Rattle.hg_mixed.specs.Held.{table};
 ghost use Rattle.hg_ops.specs.Cause.{HasOpCause};
 ghost use Rattle.hg_ops.specs.declared.refusal.OpFault.TheVariants as an_op_fault;
-ghost use Rattle.hg_session.specs.Acts.{ActsOn, IsActed, name, refused_line, steps_of};
+ghost use Rattle.hg_session.specs.Acts.{IsActed, name, refused_line, steps_of};
+ghost use Rattle.hg_session.specs.Acting.{ActsOn};
+ghost use Rattle.hg_session.specs.Call.{watched};
 ghost use Rattle.hg_session.specs.Kept.{KeepsLent, KeepsTexts};
 ghost use Rattle.hg_session.specs.declared.acting.Changing.TheVariants as a_change;
 ghost use Rattle.hg_shelf.specs.Images.{Goes, course};
@@ -107,7 +109,7 @@ fn act_words<T: Tree>(
         (name command)
         (steps_of command)
         words.now
-        (record { old = T.history tree.old; new = T.history tree.new; before = T.faults tree.old; after = T.faults tree.new })
+        (watched T.history T.faults tree.old tree.new)
         (table mixed.old)
         (table mixed.new)
         lines.items
@@ -148,8 +150,8 @@ pub(crate) fn act<T: Tree, S: Shelf>(
     // `ActsOn` in specs/Acts.antt.
     ensures acts { ActsOn
         command.now
-        (record { old = T.history tree.old; new = T.history tree.new; before = T.faults tree.old; after = T.faults tree.new })
-        (record { old = S.history shelf.old; new = S.history shelf.new; before = S.faults shelf.old; after = S.faults shelf.new })
+        (watched T.history T.faults tree.old tree.new)
+        (watched S.history S.faults shelf.old shelf.new)
         mixed.old
         mixed.new
         result }

@@ -45,7 +45,7 @@ impl From<OpFault> for ChangeFault {
 
 impl From<PublishFault> for ChangeFault {
     ghost use Rattle.std.specs.Prelude.{◌≡◌};
-    ghost use Rattle.hg_session.specs.Change.{of_publish};
+    ghost use Rattle.hg_session.specs.Changing.{of_publish};
 
     ghost from_gives = { λ f e. e ≡ of_publish f };
 

@@ -10,11 +10,15 @@ ghost use Rattle.hg_save.specs.Over.{HasUsed, IsLentRight};
 ghost use Rattle.hg_save.specs.Leads.{IsHeld};
 ghost use Rattle.hg_save.specs.Loads.{Try};
 ghost use Rattle.hg_session.specs.Acts.{makes_of};
-ghost use Rattle.hg_session.specs.Anew.{IsOpened, IsRecorded, LoadsOrRefuses, MetWriting, WritesOnly};
-ghost use Rattle.hg_session.specs.Change.{AsksChange, ChangesBehind, FailsOrUnwritten, IsDone, IsSafeHeld, MetChanging, fault_of, of_change};
-ghost use Rattle.hg_session.specs.Loaded.{AsksRecord, NodesFind};
+ghost use Rattle.hg_session.specs.Anew.{IsRecorded, MetWriting, WritesOnly};
+ghost use Rattle.hg_session.specs.Reading.{IsOpened, LoadsOrRefuses, NodesFind};
+ghost use Rattle.hg_session.specs.Call.{saved_by, watched};
+ghost use Rattle.hg_session.specs.Change.{AsksChange, ChangesBehind, IsDone, MetChanging, of_change};
+ghost use Rattle.hg_session.specs.Changing.{FailsOrUnwritten, IsSafeHeld, fault_of, CameHeld};
+ghost use Rattle.hg_session.specs.Loaded.{AsksRecord};
 ghost use Rattle.hg_session.specs.Ways.{CanWrite};
 ghost use Rattle.hg_ops.specs.declared.refusal.OpFault.TheVariants as an_op_fault;
+ghost use Rattle.hg_session.specs.Told.{refusing};
 ghost use Rattle.hg_session.specs.declared.change_fault.ChangeFault.TheVariants as a_fault;
 ghost use Rattle.hg_session.specs.declared.read_fault.ReadFault.TheVariants as a_read;
 ghost use Rattle.hg_shelf.specs.Asks.{AsksNothing};
@@ -84,52 +88,20 @@ pub(crate) fn change_locked<T: Tree, S: Shelf>(
     shelf: &mut S,
 ) -> Result<Vec<u8>, ChangeFault>
     requires { (S.history shelf.old).ours ≡ true }
-    ensures done { IfOk
-        result
-        (λ lines. IsDone
-        (makes_of
+    // `CameHeld` in specs/Changing.antt.
+    ensures came { CameHeld
         command.now
-        (record { old = T.history tree.old; new = T.history tree.new; before = T.faults tree.old; after = T.faults tree.new })
-        (record { old = S.history shelf.old; new = S.history shelf.new; before = S.faults shelf.old; after = S.faults shelf.new }))
-        (record { old = S.history shelf.old; new = S.history shelf.new; before = S.faults shelf.old; after = S.faults shelf.new })
-        (record { old = course (S.history shelf.old) (S.images shelf.old); new = course (S.history shelf.new) (S.images shelf.new) })
-        (S.history shelf.old).last
-        (S.history shelf.new).last
-        lines.items) }
-    ensures met { IfErr
-        result
-        (MetChanging
-        (makes_of
-        command.now
-        (record { old = T.history tree.old; new = T.history tree.new; before = T.faults tree.old; after = T.faults tree.new })
-        (record { old = S.history shelf.old; new = S.history shelf.new; before = S.faults shelf.old; after = S.faults shelf.new }))
-        (record { old = T.history tree.old; new = T.history tree.new; before = T.faults tree.old; after = T.faults tree.new })
-        (record { old = S.history shelf.old; new = S.history shelf.new; before = S.faults shelf.old; after = S.faults shelf.new })) }
-    ensures safe { Undisturbed (course (S.history shelf.old) (S.images shelf.old)) (course (S.history shelf.new) (S.images shelf.new))
-        → IsSafeHeld
-        (makes_of
-        command.now
-        (record { old = T.history tree.old; new = T.history tree.new; before = T.faults tree.old; after = T.faults tree.new })
-        (record { old = S.history shelf.old; new = S.history shelf.new; before = S.faults shelf.old; after = S.faults shelf.new }))
-        (record { old = course (S.history shelf.old) (S.images shelf.old); new = course (S.history shelf.new) (S.images shelf.new) })
-        (fault_of result) }
+        (watched T.history T.faults tree.old tree.new)
+        (watched S.history S.faults shelf.old shelf.new)
+        (saved_by S.history S.images shelf.old shelf.new)
+        result }
     ensures unwritten { IfErr result (FailsOrUnwritten (S.history shelf.old) (S.history shelf.new)) }
-    ensures copy { ChangesBehind
-        command.now
-        (record { old = T.history tree.old; new = T.history tree.new; before = T.faults tree.old; after = T.faults tree.new })
-        (record { old = S.history shelf.old; new = S.history shelf.new; before = S.faults shelf.old; after = S.faults shelf.new }) }
     ensures failed { T.faults tree.old < T.faults tree.new → result ≡ Err (a_fault.Op an_op_fault.TreeFailed) }
     ensures calm_tree { OnOk result (T.faults tree.new ≡ T.faults tree.old) }
     ensures calm_shelf { OnOk result (S.faults shelf.new ≡ S.faults shelf.old) }
     ensures later { S.faults shelf.old ≤ S.faults shelf.new }
     ensures kept { Goes (course (S.history shelf.old) (S.images shelf.old)) (course (S.history shelf.new) (S.images shelf.new)) }
     ensures ours { (S.history shelf.new).ours ≡ (S.history shelf.old).ours }
-    ensures asked { IsTrue (S.history shelf.old).told
-        → AsksChange
-        command.now
-        (record { old = T.history tree.old; new = T.history tree.new; before = T.faults tree.old; after = T.faults tree.new })
-        (S.history shelf.old)
-        (S.history shelf.new) }
     ensures lock { IsTrue (S.history shelf.old).told → IsHeld (S.history shelf.old) (S.history shelf.new) }
     ensures uncalled { (S.history shelf.new).locks ≡ (S.history shelf.old).locks }
     ensures locks { S.held shelf.new ≡ S.held shelf.old }

@@ -7,6 +7,7 @@ ghost use Rattle.hg_mixed.specs.Held.{table};
 ghost use Rattle.hg_ops.specs.Copy.{IsCopyFault};
 ghost use Rattle.hg_ops.specs.declared.refusal.OpFault.TheVariants as an_op_fault;
 ghost use Rattle.hg_session.specs.Acts.{IsCopied, OnlyPuts, copy_line};
+ghost use Rattle.hg_session.specs.Call.{watched};
 ghost use Rattle.hg_session.specs.Kept.{KeepsLent};
 
 use hg_base::OutOfMemory;
@@ -63,7 +64,7 @@ pub(crate) fn copy_one<T: Tree>(
         (λ line. IsCopied
         source.now
         target.now
-        (record { old = T.history tree.old; new = T.history tree.new; before = T.faults tree.old; after = T.faults tree.new })
+        (watched T.history T.faults tree.old tree.new)
         (table mixed.old)
         (table mixed.new)
         line.items
@@ -74,7 +75,7 @@ pub(crate) fn copy_one<T: Tree>(
         source.now
         target.now
         (table mixed.old)
-        (record { old = T.history tree.old; new = T.history tree.new; before = T.faults tree.old; after = T.faults tree.new }) }
+        (watched T.history T.faults tree.old tree.new) }
     ensures kind { IfErr result IsCopyFault }
     ensures cause { HasCause (T.faults tree.old) (T.faults tree.new) result (λ e. e ≡ an_op_fault.TreeFailed) }
     ensures failed { T.faults tree.old < T.faults tree.new → result ≡ Err an_op_fault.TreeFailed }

@@ -10,7 +10,8 @@ ghost use Rattle.hg_session.specs.Debug.{Prints, ShowsRecord};
 ghost use Rattle.hg_session.specs.Look.{OnlyReads};
 ghost use Rattle.hg_session.specs.Put.{OnStream};
 ghost use Rattle.hg_save.specs.Loads.{Try};
-ghost use Rattle.hg_session.specs.Loaded.{AsksRecord, IsBytesOf, NodesFind, Reads};
+ghost use Rattle.hg_session.specs.Loaded.{AsksRecord};
+ghost use Rattle.hg_session.specs.Reading.{IsBytesOf, NodesFind, Reads};
 ghost use Rattle.hg_session.specs.declared.print_fault.PrintFault.TheVariants as a_print;
 ghost use Rattle.hg_session.specs.declared.read_fault.ReadFault.TheVariants as a_fault;
 
@@ -37,7 +38,6 @@ fn text_in(alloc: Global, loaded: &Loaded) -> Result<Vec<u8>, ReadFault>
 // Loads the dirstate, and answers the text of all that it records.
 fn load_text<S: Shelf>(alloc: Global, shelf: &mut S) -> Result<Vec<u8>, ReadFault>
     ensures only { OnlyReads
-        (watched S.history S.faults shelf.old shelf.new)
         (saved_by S.history S.images shelf.old shelf.new)
         (counted S.held shelf.old shelf.new) }
     ensures found { IsTrue (S.history shelf.old).told → ((tried : Try) × Reads IsBytesOf (S.history shelf.old) (S.history shelf.new) (tried ∷ []) result) }
@@ -61,7 +61,6 @@ fn print_record<S: Shelf, O: Sink>(
     ensures streams { IfErr result (λ e. e ≡ a_print.OutFailed → S.faults shelf.new ≡ S.faults shelf.old) }
     ensures calm_out { OnOk result (O.faults out.new ≡ O.faults out.old) }
     ensures only { OnlyReads
-        (watched S.history S.faults shelf.old shelf.new)
         (saved_by S.history S.images shelf.old shelf.new)
         (counted S.held shelf.old shelf.new) }
 {
@@ -90,7 +89,6 @@ pub(crate) fn show_record<S: Shelf, O: Sink, E: Sink>(
     ensures calm_out { result.fault ≡ None → O.faults out.new ≡ O.faults out.old }
     ensures calm_err { result.fault ≡ None → E.faults err.new ≡ E.faults err.old }
     ensures only { OnlyReads
-        (watched S.history S.faults shelf.old shelf.new)
         (saved_by S.history S.images shelf.old shelf.new)
         (counted S.held shelf.old shelf.new) }
     ensures status { MatchOption result.fault (result.status ≡ 0) (λ fault. result.status ≡ 255) }

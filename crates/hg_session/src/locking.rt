@@ -2,13 +2,14 @@
 
 ghost use Rattle.std.specs.Prelude.{◌≡◌, ◌⊎◌, ◌<◌, List, Option, ℕ, IfErr, IfOk, IsTrue, MatchOption, None, OnOk, Err};
 ghost use Rattle.hg_session.specs.Acts.{makes_of};
-ghost use Rattle.hg_session.specs.Call.{Count, Sink};
-ghost use Rattle.hg_session.specs.Change.{AsksChange, ChangesBehind, FailsOrUnwritten, IsDone, IsLocked, IsSafe, MetLocking, Stretch, fault_of, of_change, once_freed};
-ghost use Rattle.hg_session.specs.Changed as changed_is;
-ghost use Rattle.hg_session.specs.Ends.{EndsChange};
+ghost use Rattle.hg_session.specs.Call.{Count, Sink, counted, saved_by, watched};
+ghost use Rattle.hg_session.specs.Change.{AsksChange, ChangesBehind, IsDone, IsLocked, IsSafe, MetLocking, Stretch, of_change};
+ghost use Rattle.hg_session.specs.Changing.{FailsOrUnwritten, fault_of, once_freed, EndsChange, CameLocked};
 ghost use Rattle.hg_session.specs.Loaded.{AsksRecord};
 ghost use Rattle.hg_session.specs.Put.{IsSilent};
 ghost use Rattle.hg_ops.specs.declared.refusal.OpFault.TheVariants as an_op_fault;
+ghost use Rattle.hg_session.specs.Told as told_is;
+ghost use Rattle.hg_session.specs.Told.{refusing};
 ghost use Rattle.hg_session.specs.declared.change_fault.ChangeFault.TheVariants as a_fault;
 ghost use Rattle.hg_shelf.specs.Images.{Goes, course};
 ghost use Rattle.hg_shelf.specs.Polite.{Undisturbed};
@@ -47,62 +48,20 @@ fn change<T: Tree, S: Shelf>(
     tree: &mut T,
     shelf: &mut S,
 ) -> Result<Vec<u8>, ChangeFault>
-    ensures done { IfOk
-        result
-        (λ lines. (stretch : Stretch (S.history shelf.old) (S.history shelf.new)) × IsDone
-        (makes_of
+    // `CameLocked` in specs/Changing.antt.
+    ensures came { CameLocked
         command.now
-        (record { old = T.history tree.old; new = T.history tree.new; before = T.faults tree.old; after = T.faults tree.new })
-        (record { old = S.history shelf.old; new = S.history shelf.new; before = S.faults shelf.old; after = S.faults shelf.new }))
-        (record { old = S.history shelf.old; new = S.history shelf.new; before = S.faults shelf.old; after = S.faults shelf.new })
-        (record { old = course (S.history shelf.old) (S.images shelf.old); new = course (S.history shelf.new) (S.images shelf.new) })
-        stretch.from
-        stretch.to
-        lines.items) }
-    ensures met { IfErr
-        result
-        (MetLocking
-        (makes_of
-        command.now
-        (record { old = T.history tree.old; new = T.history tree.new; before = T.faults tree.old; after = T.faults tree.new })
-        (record { old = S.history shelf.old; new = S.history shelf.new; before = S.faults shelf.old; after = S.faults shelf.new }))
-        (record { old = T.history tree.old; new = T.history tree.new; before = T.faults tree.old; after = T.faults tree.new })
-        (record { old = S.history shelf.old; new = S.history shelf.new; before = S.faults shelf.old; after = S.faults shelf.new })
-        (record { before = S.held shelf.old; after = S.held shelf.new })) }
-    ensures safe { Undisturbed (course (S.history shelf.old) (S.images shelf.old)) (course (S.history shelf.new) (S.images shelf.new))
-        → IsSafe
-        (makes_of
-        command.now
-        (record { old = T.history tree.old; new = T.history tree.new; before = T.faults tree.old; after = T.faults tree.new })
-        (record { old = S.history shelf.old; new = S.history shelf.new; before = S.faults shelf.old; after = S.faults shelf.new }))
-        (record { old = course (S.history shelf.old) (S.images shelf.old); new = course (S.history shelf.new) (S.images shelf.new) })
-        (fault_of result) }
+        (watched T.history T.faults tree.old tree.new)
+        (watched S.history S.faults shelf.old shelf.new)
+        (saved_by S.history S.images shelf.old shelf.new)
+        (counted S.held shelf.old shelf.new)
+        result }
     ensures unwritten { IfErr result (FailsOrUnwritten (S.history shelf.old) (S.history shelf.new)) }
     ensures held { S.held shelf.old < S.held shelf.new → result ≡ Err a_fault.Held }
     ensures failed { T.faults tree.old < T.faults tree.new → result ≡ Err (a_fault.Op an_op_fault.TreeFailed) }
-    ensures copy { ChangesBehind
-        command.now
-        (record { old = T.history tree.old; new = T.history tree.new; before = T.faults tree.old; after = T.faults tree.new })
-        (record { old = S.history shelf.old; new = S.history shelf.new; before = S.faults shelf.old; after = S.faults shelf.new }) }
     ensures calm_tree { OnOk result (T.faults tree.new ≡ T.faults tree.old) }
     ensures calm_shelf { OnOk result (S.faults shelf.new ≡ S.faults shelf.old) }
     ensures kept { Goes (course (S.history shelf.old) (S.images shelf.old)) (course (S.history shelf.new) (S.images shelf.new)) }
-    ensures asked { IsTrue (S.history shelf.old).told
-        → AsksChange
-        command.now
-        (record { old = T.history tree.old; new = T.history tree.new; before = T.faults tree.old; after = T.faults tree.new })
-        (S.history shelf.old)
-        (S.history shelf.new) }
-    ensures locked { IsLocked
-        (makes_of
-        command.now
-        (record { old = T.history tree.old; new = T.history tree.new; before = T.faults tree.old; after = T.faults tree.new })
-        (record { old = S.history shelf.old; new = S.history shelf.new; before = S.faults shelf.old; after = S.faults shelf.new }))
-        (record { old = T.history tree.old; new = T.history tree.new; before = T.faults tree.old; after = T.faults tree.new })
-        (record { old = S.history shelf.old; new = S.history shelf.new; before = S.faults shelf.old; after = S.faults shelf.new })
-        (record { old = course (S.history shelf.old) (S.images shelf.old); new = course (S.history shelf.new) (S.images shelf.new) })
-        (record { before = S.held shelf.old; after = S.held shelf.new })
-        (fault_of result) }
 {
     match shelf.lock() {
         Err(_) => Err(ChangeFault::ShelfFailed),
@@ -117,7 +76,7 @@ fn change<T: Tree, S: Shelf>(
 
 // The status by the lines of the words that were refused.
 fn status_of(lines: &[u8]) -> u8
-    ensures { result ≡ changed_is.status_of lines.now }
+    ensures { result ≡ told_is.status_of lines.now }
 {
     if lines.is_empty() { 0 } else { 1 }
 }
@@ -137,14 +96,14 @@ pub(crate) fn change_record<T: Tree, S: Shelf, E: Sink>(
           command = command.now;
           looked =
               record {
-                tree = record { old = T.history tree.old; new = T.history tree.new; before = T.faults tree.old; after = T.faults tree.new };
-                shelf = record { old = S.history shelf.old; new = S.history shelf.new; before = S.faults shelf.old; after = S.faults shelf.new };
+                tree = watched T.history T.faults tree.old tree.new;
+                shelf = watched S.history S.faults shelf.old shelf.new;
                 oversize = oversize;
               };
-          saved = record { old = course (S.history shelf.old) (S.images shelf.old); new = course (S.history shelf.new) (S.images shelf.new) };
-          locks = record { before = S.held shelf.old; after = S.held shelf.new };
+          saved = saved_by S.history S.images shelf.old shelf.new;
+          locks = counted S.held shelf.old shelf.new;
           out = out;
-          err = record { old = E.bytes err.old; new = E.bytes err.new; before = E.faults err.old; after = E.faults err.new };
+          err = watched E.bytes E.faults err.old err.new;
         })
         result.status
         result.fault }

@@ -2,8 +2,8 @@
 
 ghost use Rattle.hg_mixed.specs.Held.{table};
 ghost use Rattle.hg_session.specs.Call.{counted, saved_by, watched};
-ghost use Rattle.hg_session.specs.Look.{EndsAs, OnlyReads};
-ghost use Rattle.hg_session.specs.Status.{DoesStatus, ShowsTable};
+ghost use Rattle.hg_session.specs.Look.{OnlyReads};
+ghost use Rattle.hg_session.specs.Looking.{EndsAs, DoesStatus, ShowsTable};
 
 use crate::ending::{Outcome, failed, has_line};
 use crate::flags::{style, wanted};
@@ -42,7 +42,6 @@ fn show<T: Tree, S: Shelf, G: Regexps, O: Sink, E: Sink>(
         (watched E.bytes E.faults err.old err.new)
         result }
     ensures only { OnlyReads
-        (watched S.history S.faults shelf.old shelf.new)
         (saved_by S.history S.images shelf.old shelf.new)
         (counted S.held shelf.old shelf.new) }
 {

@@ -57,7 +57,7 @@ impl<T: Drop> From<AllocFailed<T>> for ReadFault {
 
 impl From<LoadFault> for ReadFault {
     ghost use Rattle.std.specs.Prelude.{◌≡◌};
-    ghost use Rattle.hg_session.specs.Load.{by_load};
+    ghost use Rattle.hg_session.specs.Reading.{by_load};
 
     ghost from_gives = { λ f e. e ≡ by_load f };
 

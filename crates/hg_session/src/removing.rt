@@ -8,6 +8,7 @@ ghost use Rattle.hg_mixed.specs.Held.{table};
 ghost use Rattle.hg_ops.specs.Parent.{AsksStore};
 ghost use Rattle.hg_ops.specs.declared.refusal.OpFault.TheVariants as an_op_fault;
 ghost use Rattle.hg_session.specs.Acts.{IsRemoved, NeedsSome, OnlyTakes, StopsRemoving, span_of};
+ghost use Rattle.hg_session.specs.Call.{watched};
 ghost use Rattle.hg_session.specs.Kept.{KeepsLent};
 ghost use Rattle.hg_shelf.specs.History as shelves;
 ghost use Rattle.hg_shelf.specs.Images.{Goes, course};
@@ -36,8 +37,8 @@ pub(crate) fn remove_words<T: Tree, S: Shelf>(
         (λ lines. IsRemoved
         after
         words.now
-        (record { old = T.history tree.old; new = T.history tree.new; before = T.faults tree.old; after = T.faults tree.new })
-        (record { old = S.history shelf.old; new = S.history shelf.new; before = S.faults shelf.old; after = S.faults shelf.new })
+        (watched T.history T.faults tree.old tree.new)
+        (watched S.history S.faults shelf.old shelf.new)
         (table mixed.old)
         (table mixed.new)
         lines.items
@@ -48,8 +49,8 @@ pub(crate) fn remove_words<T: Tree, S: Shelf>(
         (StopsRemoving
         after
         words.now
-        (record { old = T.history tree.old; new = T.history tree.new; before = T.faults tree.old; after = T.faults tree.new })
-        (record { old = S.history shelf.old; new = S.history shelf.new; before = S.faults shelf.old; after = S.faults shelf.new })
+        (watched T.history T.faults tree.old tree.new)
+        (watched S.history S.faults shelf.old shelf.new)
         (table mixed.old)) }
     ensures lent { OnOk result (KeepsLent mixed.old mixed.new) }
     ensures image { IsOfSameImage mixed.old mixed.new }
@@ -57,7 +58,7 @@ pub(crate) fn remove_words<T: Tree, S: Shelf>(
         after
         words.now
         (table mixed.old)
-        (record { old = T.history tree.old; new = T.history tree.new; before = T.faults tree.old; after = T.faults tree.new }) }
+        (watched T.history T.faults tree.old tree.new) }
     ensures passes { shelves.Passes (S.history shelf.old) (S.history shelf.new) }
     ensures kept { Goes (course (S.history shelf.old) (S.images shelf.old)) (course (S.history shelf.new) (S.images shelf.new)) }
     ensures held { S.held shelf.new ≡ S.held shelf.old }
@@ -67,7 +68,7 @@ pub(crate) fn remove_words<T: Tree, S: Shelf>(
         after
         words.now
         (table mixed.old)
-        (record { old = T.history tree.old; new = T.history tree.new; before = T.faults tree.old; after = T.faults tree.new })
+        (watched T.history T.faults tree.old tree.new)
         × AsksStore (span_of (table mixed.old) (S.history shelf.old) (S.history shelf.new))) }
     ensures cause { HasCause (T.faults tree.old) (T.faults tree.new) result (λ e. e ≡ an_op_fault.TreeFailed) }
     ensures failed { T.faults tree.old < T.faults tree.new → result ≡ Err an_op_fault.TreeFailed }

@@ -10,6 +10,7 @@ ghost use Rattle.hg_nodes.specs.Edits.{IsSame, Marks};
 ghost use Rattle.hg_mixed.specs.Held.{table};
 ghost use Rattle.hg_ops.specs.Parents.{HasParents, LendsParents, PlacesParents};
 ghost use Rattle.hg_ops.specs.declared.refusal.OpFault.TheVariants as an_op_fault;
+ghost use Rattle.hg_session.specs.Call.{watched};
 ghost use Rattle.hg_session.specs.Kept.{KeepsLent};
 ghost use Rattle.hg_session.specs.Manifests.{Answers, AsksManifests, IsReparented, StopsParents};
 ghost use Rattle.hg_shelf.specs.History.{Passes};
@@ -71,7 +72,7 @@ pub(crate) fn reparent<S: Shelf>(
         (λ lines. IsReparented
         p1
         p2
-        (record { old = S.history shelf.old; new = S.history shelf.new; before = S.faults shelf.old; after = S.faults shelf.new })
+        (watched S.history S.faults shelf.old shelf.new)
         (table mixed.old)
         (table mixed.new)
         lines.items
@@ -81,7 +82,7 @@ pub(crate) fn reparent<S: Shelf>(
         (StopsParents
         p1
         p2
-        (record { old = S.history shelf.old; new = S.history shelf.new; before = S.faults shelf.old; after = S.faults shelf.new })) }
+        (watched S.history S.faults shelf.old shelf.new)) }
     ensures lent { OnOk result (KeepsLent mixed.old mixed.new) }
     ensures image { IsOfSameImage mixed.old mixed.new }
     ensures passes { Passes (S.history shelf.old) (S.history shelf.new) }

@@ -25,7 +25,7 @@ impl From<OutOfMemory> for SaveFault {
 
 impl From<SaveFault> for Fault {
     ghost use Rattle.std.specs.Prelude.{◌≡◌};
-    ghost use Rattle.hg_session.specs.Saving.{of_save};
+    ghost use Rattle.hg_session.specs.SavingNotes.{of_save};
 
     ghost from_gives = { λ f e. e ≡ of_save f };
 

@@ -11,7 +11,7 @@ ghost use Rattle.hg_save.specs.Record.{docket_in, shown_in};
 ghost use Rattle.hg_session.specs.Call.{counted, saved_by, watched};
 ghost use Rattle.hg_session.specs.Change.{IsUnwritten};
 ghost use Rattle.hg_session.specs.Kept.{AreNews};
-ghost use Rattle.hg_session.specs.Saving.{IsOpenedSince, IsTryOf, SavesHeld, SavesNotes, once_saved, save_fault, unless_full};
+ghost use Rattle.hg_session.specs.SavingNotes.{IsOpenedSince, IsTryOf, SavesHeld, SavesNotes, once_saved, save_fault, unless_full};
 ghost use Rattle.hg_session.specs.declared.save_fault.SaveFault.TheVariants as a_fault;
 ghost use Rattle.hg_shelf.specs.Asks.{AsksFrontOf, AsksInOrder};
 ghost use Rattle.hg_shelf.specs.History.{History, Passes, now};

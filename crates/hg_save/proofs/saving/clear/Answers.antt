@@ -5,6 +5,7 @@ use Rattle.hg_shelf.specs.Images.{course, last_scene}
 use Rattle.hg_shelf.specs.Rules.{Perhaps, Removes, without}
 use Rattle.hg_save.specs.Leads.{Clears, Leads, OwnSteps, StepBy}
 use Rattle.hg_save.specs.Record.{data_name}
+use Rattle.hg_save.proofs.Turning.{either_none, either_perhaps}
 use Rattle.hg_save.proofs.Held.{held_either, held_same}
 use Rattle.hg_save.proofs.Stages.{goes_there, leads_weaker}
 use Rattle.hg_save.proofs.Names.{empty_id, one_bytes, other_bytes, read_id, some_id}
@@ -81,3 +82,14 @@ returns-then-eq-clause-lock g c = λ told. held_same (g.S.Shelf.history c.args.s
 pub returns-then-eq-clause-gone : goal.returns-then-eq-clause-gone
 returns-then-eq-clause-gone g c = λ calm some other.
     absurd (other (ap (λ (d : Contents). d.id) (sym c.in-Ok.ensures.fields) ∙ one_bytes c.in-Ok.docket.id.now c.args.next.now c.eq.result c.eq.ensures c.if-eq.true))
+
+pub returns-then-is_empty-clause-either : goal.returns-then-is_empty-clause-either
+returns-then-is_empty-clause-either g c = λ calm. either_none (course (g.S.Shelf.history c.args.shelf.now) (g.S.Shelf.images c.args.shelf.now))
+
+pub returns-then-eq-clause-either : goal.returns-then-eq-clause-either
+returns-then-eq-clause-either g c = λ calm. either_none (course (g.S.Shelf.history c.args.shelf.now) (g.S.Shelf.images c.args.shelf.now))
+
+pub returns-clause-either : goal.returns-clause-either
+returns-clause-either g c = λ calm.
+    either_perhaps (Removes c.as_str.result.now) (course (g.S.Shelf.history c.args.shelf.now) (g.S.Shelf.images c.args.shelf.now)) (course (g.S.Shelf.history c.remove.new.self) (g.S.Shelf.images c.remove.new.self))
+    c.requires.held c.remove.ensures.kept calm (either c.remove.result (c.remove.ensures.removed calm.told) (c.remove.ensures.perhaps calm.told))

@@ -17,6 +17,7 @@ returns-in_err-put-clause-safe g c = λ calm.
     (record {
       goes = c.in_err-put.ensures.kept;
       leads = rw (c.as_str.ensures, c.of-name.ensures, c.as_slice.ensures.value) at c.in_err-put.ensures.torn;
+      either = c.in_err-put.ensures.either;
       steps = rw (c.as_str.ensures, c.of-name.ensures, c.as_slice.ensures.value) at c.in_err-put.ensures.tears;
     }) calm)
 
@@ -31,11 +32,13 @@ returns-in_err-put-2-clause-safe g c = λ calm.
     (record {
       goes = c.in_ok-put.ensures.kept;
       leads = rw (c.as_str.ensures, c.of-name.ensures, c.as_slice.ensures.value) at c.in_ok-put.ensures.torn;
+      either = c.in_ok-put.ensures.either;
       steps = rw (c.as_str.ensures, c.of-name.ensures, c.as_slice.ensures.value) at c.in_ok-put.ensures.tears;
     }) z
     (record {
       goes = c.in_err-put-2.ensures.kept;
       leads = rw c.as_slice-2.ensures.value at c.in_err-put-2.ensures.torn;
+      either = c.in_err-put-2.ensures.either;
       steps = rw c.as_slice-2.ensures.value at c.in_err-put-2.ensures.tears;
     }) calm)
 
@@ -51,15 +54,17 @@ returns-in_err-swap-clause-safe g c = λ calm.
     (record {
       goes = c.in_ok-put.ensures.kept;
       leads = rw (c.as_str.ensures, c.of-name.ensures, c.as_slice.ensures.value) at c.in_ok-put.ensures.torn;
+      either = c.in_ok-put.ensures.either;
       steps = rw (c.as_str.ensures, c.of-name.ensures, c.as_slice.ensures.value) at c.in_ok-put.ensures.tears;
     }) d
     (record {
       goes = c.in_ok-put-2.ensures.kept;
       leads = rw c.as_slice-2.ensures.value at c.in_ok-put-2.ensures.torn;
+      either = c.in_ok-put-2.ensures.either;
       steps = rw c.as_slice-2.ensures.value at c.in_ok-put-2.ensures.tears;
     })
     (rw (c.as_str.ensures, c.of-name.ensures, c.as_slice.ensures.value) at c.in_ok-put.ensures.sure) (rw c.as_slice-2.ensures.value at c.in_ok-put-2.ensures.sure) z
-    (record { goes = c.in_err-swap.ensures.kept; leads = c.in_err-swap.ensures.leads; whole = c.in_err-swap.ensures.whole; steps = c.in_err-swap.ensures.steps })
+    (record { goes = c.in_err-swap.ensures.kept; leads = c.in_err-swap.ensures.leads; whole = c.in_err-swap.ensures.whole; either = c.in_err-swap.ensures.either; steps = c.in_err-swap.ensures.steps })
     (λ k within told. g.met.S.Shelf.named_leaves c.swap.new.shelf k ((g.S.Shelf.history c.swap.new.shelf).at k).files (g.met.S.Shelf.shown_named c.swap.new.shelf k told within)) calm)
 
 pub returns-clause-safe : goal.returns-clause-safe
@@ -75,20 +80,23 @@ returns-clause-safe g c = λ calm.
     (record {
       goes = c.in_ok-put.ensures.kept;
       leads = rw (c.as_str.ensures, c.of-name.ensures, c.as_slice.ensures.value) at c.in_ok-put.ensures.torn;
+      either = c.in_ok-put.ensures.either;
       steps = rw (c.as_str.ensures, c.of-name.ensures, c.as_slice.ensures.value) at c.in_ok-put.ensures.tears;
     }) d
     (record {
       goes = c.in_ok-put-2.ensures.kept;
       leads = rw c.as_slice-2.ensures.value at c.in_ok-put-2.ensures.torn;
+      either = c.in_ok-put-2.ensures.either;
       steps = rw c.as_slice-2.ensures.value at c.in_ok-put-2.ensures.tears;
     })
     (rw (c.as_str.ensures, c.of-name.ensures, c.as_slice.ensures.value) at c.in_ok-put.ensures.sure) (rw c.as_slice-2.ensures.value at c.in_ok-put-2.ensures.sure) e
-    (record { goes = c.in_ok-swap.ensures.kept; leads = c.in_ok-swap.ensures.leads; whole = c.in_ok-swap.ensures.whole; steps = c.in_ok-swap.ensures.steps })
+    (record { goes = c.in_ok-swap.ensures.kept; leads = c.in_ok-swap.ensures.leads; whole = c.in_ok-swap.ensures.whole; either = c.in_ok-swap.ensures.either; steps = c.in_ok-swap.ensures.steps })
     (λ k within told. g.met.S.Shelf.named_leaves c.swap.new.shelf k ((g.S.Shelf.history c.swap.new.shelf).at k).files (g.met.S.Shelf.shown_named c.swap.new.shelf k told within))
     c.in_ok-swap.ensures.done z
     (record {
       goes = c.clear.ensures.kept;
       leads = rw (c.as_slice-3.ensures.value, c.as_bytes.ensures.bytes) at c.clear.ensures.leads;
+      either = c.clear.ensures.either;
       steps = rw (c.as_slice-3.ensures.value, c.as_bytes.ensures.bytes) at c.clear.ensures.steps;
     }) calm)
 
@@ -128,20 +136,23 @@ returns-clause-exact g c = λ calm.
     (record {
       goes = c.in_ok-put.ensures.kept;
       leads = rw (c.as_str.ensures, c.of-name.ensures, c.as_slice.ensures.value) at c.in_ok-put.ensures.torn;
+      either = c.in_ok-put.ensures.either;
       steps = rw (c.as_str.ensures, c.of-name.ensures, c.as_slice.ensures.value) at c.in_ok-put.ensures.tears;
     }) d
     (record {
       goes = c.in_ok-put-2.ensures.kept;
       leads = rw c.as_slice-2.ensures.value at c.in_ok-put-2.ensures.torn;
+      either = c.in_ok-put-2.ensures.either;
       steps = rw c.as_slice-2.ensures.value at c.in_ok-put-2.ensures.tears;
     })
     (rw (c.as_str.ensures, c.of-name.ensures, c.as_slice.ensures.value) at c.in_ok-put.ensures.sure) (rw c.as_slice-2.ensures.value at c.in_ok-put-2.ensures.sure) e
-    (record { goes = c.in_ok-swap.ensures.kept; leads = c.in_ok-swap.ensures.leads; whole = c.in_ok-swap.ensures.whole; steps = c.in_ok-swap.ensures.steps })
+    (record { goes = c.in_ok-swap.ensures.kept; leads = c.in_ok-swap.ensures.leads; whole = c.in_ok-swap.ensures.whole; either = c.in_ok-swap.ensures.either; steps = c.in_ok-swap.ensures.steps })
     (λ k within told. g.met.S.Shelf.named_leaves c.swap.new.shelf k ((g.S.Shelf.history c.swap.new.shelf).at k).files (g.met.S.Shelf.shown_named c.swap.new.shelf k told within))
     c.in_ok-swap.ensures.done z
     (record {
       goes = c.clear.ensures.kept;
       leads = rw (c.as_slice-3.ensures.value, c.as_bytes.ensures.bytes) at c.clear.ensures.leads;
+      either = c.clear.ensures.either;
       steps = rw (c.as_slice-3.ensures.value, c.as_bytes.ensures.bytes) at c.clear.ensures.steps;
     }) calm)
 
@@ -158,20 +169,23 @@ returns-clause-sure g c = λ calm has.
     (record {
       goes = c.in_ok-put.ensures.kept;
       leads = rw (c.as_str.ensures, c.of-name.ensures, c.as_slice.ensures.value) at c.in_ok-put.ensures.torn;
+      either = c.in_ok-put.ensures.either;
       steps = rw (c.as_str.ensures, c.of-name.ensures, c.as_slice.ensures.value) at c.in_ok-put.ensures.tears;
     }) d
     (record {
       goes = c.in_ok-put-2.ensures.kept;
       leads = rw c.as_slice-2.ensures.value at c.in_ok-put-2.ensures.torn;
+      either = c.in_ok-put-2.ensures.either;
       steps = rw c.as_slice-2.ensures.value at c.in_ok-put-2.ensures.tears;
     })
     (rw (c.as_str.ensures, c.of-name.ensures, c.as_slice.ensures.value) at c.in_ok-put.ensures.sure) (rw c.as_slice-2.ensures.value at c.in_ok-put-2.ensures.sure) e
-    (record { goes = c.in_ok-swap.ensures.kept; leads = c.in_ok-swap.ensures.leads; whole = c.in_ok-swap.ensures.whole; steps = c.in_ok-swap.ensures.steps })
+    (record { goes = c.in_ok-swap.ensures.kept; leads = c.in_ok-swap.ensures.leads; whole = c.in_ok-swap.ensures.whole; either = c.in_ok-swap.ensures.either; steps = c.in_ok-swap.ensures.steps })
     (λ k within told. g.met.S.Shelf.named_leaves c.swap.new.shelf k ((g.S.Shelf.history c.swap.new.shelf).at k).files (g.met.S.Shelf.shown_named c.swap.new.shelf k told within))
     c.in_ok-swap.ensures.done z
     (record {
       goes = c.clear.ensures.kept;
       leads = rw (c.as_slice-3.ensures.value, c.as_bytes.ensures.bytes) at c.clear.ensures.leads;
+      either = c.clear.ensures.either;
       steps = rw (c.as_slice-3.ensures.value, c.as_bytes.ensures.bytes) at c.clear.ensures.steps;
     }) calm))
 

@@ -3,6 +3,7 @@ use Rattle.hg_shelf.specs.Images.{course}
 use Rattle.hg_shelf.proofs.Scenes.{goes_trans}
 use Rattle.hg_save.proofs.Own.{names_failed_steps, rename_failed_steps, swap_steps}
 use Rattle.hg_save.proofs.Parts.{names_failed, names_whole, rename_failed, rename_whole, swap_done, swap_leads}
+use Rattle.hg_save.proofs.Turning.{either_acts, either_perhaps, either_then, stays_acts, stays_passes}
 use Rattle.hg_save.proofs.Held.{held_acts, held_either, held_passes, held_then}
 use Rattle.hg_shelf.specs.Rules.{Renames, SyncsNames}
 use Rattle.hg_save.proofs.steps.swap.Goals as goal
@@ -100,3 +101,19 @@ returns-clause-lock g c = λ told.
     held_then (g.S.Shelf.history c.args.shelf.now) (g.S.Shelf.history c.rename.new.self) (g.S.Shelf.history c.sync_names.new.self) c.in_ok-sync_names.ensures.kept.past
     (held_acts (Renames c.args.from.now c.args.to.now) (course (g.S.Shelf.history c.args.shelf.now) (g.S.Shelf.images c.args.shelf.now)) (course (g.S.Shelf.history c.rename.new.self) (g.S.Shelf.images c.rename.new.self)) c.requires (c.in_ok-rename.ensures.renamed told))
     (held_acts SyncsNames (course (g.S.Shelf.history c.rename.new.self) (g.S.Shelf.images c.rename.new.self)) (course (g.S.Shelf.history c.sync_names.new.self) (g.S.Shelf.images c.sync_names.new.self)) (c.in_ok-rename.ensures.ours ∙ c.requires) (c.in_ok-sync_names.ensures.synced (c.in_ok-rename.ensures.kept.past.told ∙ told)))
+
+pub returns-in_err-rename-clause-either : goal.returns-in_err-rename-clause-either
+returns-in_err-rename-clause-either g c = λ calm.
+    either_perhaps (Renames c.args.from.now c.args.to.now) (course (g.S.Shelf.history c.args.shelf.now) (g.S.Shelf.images c.args.shelf.now)) (course (g.S.Shelf.history c.rename.new.self) (g.S.Shelf.images c.rename.new.self)) c.requires c.in_err-rename.ensures.kept calm (c.in_err-rename.ensures.perhaps calm.told)
+
+pub returns-in_err-sync_names-clause-either : goal.returns-in_err-sync_names-clause-either
+returns-in_err-sync_names-clause-either g c = λ calm.
+    either_then (course (g.S.Shelf.history c.args.shelf.now) (g.S.Shelf.images c.args.shelf.now)) (course (g.S.Shelf.history c.rename.new.self) (g.S.Shelf.images c.rename.new.self)) (course (g.S.Shelf.history c.sync_names.new.self) (g.S.Shelf.images c.sync_names.new.self)) c.in_ok-rename.ensures.kept c.in_err-sync_names.ensures.kept calm
+    (λ calm. either_acts (Renames c.args.from.now c.args.to.now) (course (g.S.Shelf.history c.args.shelf.now) (g.S.Shelf.images c.args.shelf.now)) (course (g.S.Shelf.history c.rename.new.self) (g.S.Shelf.images c.rename.new.self)) c.requires c.in_ok-rename.ensures.kept calm (c.in_ok-rename.ensures.renamed calm.told))
+    (λ calm. stays_passes (course (g.S.Shelf.history c.rename.new.self) (g.S.Shelf.images c.rename.new.self)) (course (g.S.Shelf.history c.sync_names.new.self) (g.S.Shelf.images c.sync_names.new.self)) (c.in_ok-rename.ensures.ours ∙ c.requires) c.in_err-sync_names.ensures.kept calm c.in_err-sync_names.ensures.unsynced)
+
+pub returns-clause-either : goal.returns-clause-either
+returns-clause-either g c = λ calm.
+    either_then (course (g.S.Shelf.history c.args.shelf.now) (g.S.Shelf.images c.args.shelf.now)) (course (g.S.Shelf.history c.rename.new.self) (g.S.Shelf.images c.rename.new.self)) (course (g.S.Shelf.history c.sync_names.new.self) (g.S.Shelf.images c.sync_names.new.self)) c.in_ok-rename.ensures.kept c.in_ok-sync_names.ensures.kept calm
+    (λ calm. either_acts (Renames c.args.from.now c.args.to.now) (course (g.S.Shelf.history c.args.shelf.now) (g.S.Shelf.images c.args.shelf.now)) (course (g.S.Shelf.history c.rename.new.self) (g.S.Shelf.images c.rename.new.self)) c.requires c.in_ok-rename.ensures.kept calm (c.in_ok-rename.ensures.renamed calm.told))
+    (λ calm. stays_acts SyncsNames (course (g.S.Shelf.history c.rename.new.self) (g.S.Shelf.images c.rename.new.self)) (course (g.S.Shelf.history c.sync_names.new.self) (g.S.Shelf.images c.sync_names.new.self)) (c.in_ok-rename.ensures.ours ∙ c.requires) c.in_ok-sync_names.ensures.kept calm (λ x y step. step.same.shown) (c.in_ok-sync_names.ensures.synced calm.told))

@@ -1,7 +1,7 @@
 -- The answer of a call, by its command.
 use Rattle.std.proofs.Common.{ap, inl, inr, refl}
 use Rattle.hg_session.proofs.Caused.{answered_changed, answered_record, answered_status, answered_unbuilt}
-use Rattle.hg_session.proofs.Locked.{unwritten, unwritten_here}
+use Rattle.hg_session.proofs.Locked.{unwritten_here}
 use Rattle.hg_shelf.proofs.Histories.{passes_same}
 use Rattle.hg_shelf.proofs.Scenes.{goes_same}
 use Rattle.hg_shelf.specs.Images.{course}
@@ -17,7 +17,7 @@ returns-in-DebugDirstate g c =
     answered_record _ c.show_record.result.status c.show_record.result.fault c.in-DebugDirstate.is c.show_record.ensures.shows c.show_record.ensures.below
     (record { history = refl; count = refl }) refl
     (λ none. record { tree = refl; shelf = c.show_record.ensures.calm_shelf none; regexps = refl; out = c.show_record.ensures.calm_out none; err = c.show_record.ensures.calm_err none })
-    c.show_record.ensures.only (unwritten _ _ c.show_record.ensures.only.passes) c.show_record.ensures.status c.show_record.ensures.streams
+    c.show_record.ensures.only c.show_record.ensures.only.passes c.show_record.ensures.status c.show_record.ensures.streams
 
 pub returns-in-Add : goal.returns-in-Add
 returns-in-Add g c =

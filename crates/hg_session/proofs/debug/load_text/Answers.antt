@@ -1,7 +1,7 @@
 use Rattle.std.proofs.lemmas.Result.{err_from_is_err_and}
 use Rattle.hg_docket.specs.Docket.{docket_of}
 use Rattle.hg_image.specs.Reading.{data_reading}
-use Rattle.hg_session.specs.Loaded.{IsBytesOf}
+use Rattle.hg_session.specs.Reading.{IsBytesOf}
 use Rattle.hg_session.proofs.Asking.{asks_load}
 use Rattle.hg_session.proofs.Readings.{cause_still, found_some, read_by, unread}
 use Rattle.hg_session.proofs.debug.load_text.Goals as goal

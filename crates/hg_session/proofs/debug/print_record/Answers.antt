@@ -2,7 +2,7 @@ use Rattle.std.proofs.Common.{refl, subst, List, ℕ}
 use Rattle.std.proofs.lemmas.Result.{err_from_is_err_and}
 use Rattle.hg_stream.specs.Stream.{Grown, GrownByFront}
 use Rattle.hg_shelf.proofs.Histories.{passes_same}
-use Rattle.hg_session.specs.Loaded.{IsBytesOf}
+use Rattle.hg_session.specs.Reading.{IsBytesOf}
 use Rattle.hg_session.proofs.Readings.{loaded_as, met_reading}
 use Rattle.hg_session.proofs.debug.print_record.Goals as goal
 

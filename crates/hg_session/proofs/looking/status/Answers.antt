@@ -14,10 +14,11 @@ use Rattle.hg_session.proofs.NotesKept.{needed_are_news}
 use Rattle.hg_session.proofs.Readings.{cause_still, loaded_since, loaded_table, met_reading, met_refused, opened_as, opened_nodes, same_as}
 use Rattle.hg_session.proofs.Saves.{saves_earlier}
 use Rattle.hg_session.proofs.Stages.{does_saved, does_unread, does_unsaved, does_unshown, needed_can, noted_as, save_met}
-use Rattle.hg_session.specs.Anew.{IsOpened}
+use Rattle.hg_session.specs.Reading.{IsOpened}
 use Rattle.hg_session.specs.Call.{Count, IsLeftAlone, Looked, Saved}
-use Rattle.hg_session.specs.Saving.{IsOpenedSince, IsTryOf, of_save}
-use Rattle.hg_session.specs.Status.{OnlyAsksBelow, listed_to}
+use Rattle.hg_session.specs.SavingNotes.{IsOpenedSince, IsTryOf, of_save}
+use Rattle.hg_session.specs.Look.{OnlyReads}
+use Rattle.hg_session.specs.Looking.{listed_to}
 use Rattle.hg_session.proofs.looking.status.Goals as goal
 
 pub returns-in_err-loaded : goal.returns-in_err-loaded
@@ -30,7 +31,7 @@ returns-in_err-loaded g c =
     } in
     let saved : Saved = record { old = course (g.S.Shelf.history c.args.shelf.now) (g.S.Shelf.images c.args.shelf.now); new = course (g.S.Shelf.history c.read.new.shelf) (g.S.Shelf.images c.read.new.shelf) } in
     let locks : Count = record { before = g.S.Shelf.held c.args.shelf.now; after = g.S.Shelf.held c.read.new.shelf } in
-    let unsaved : OnlyAsksBelow saved locks = record { passes = c.read.ensures.passes; kept = c.read.ensures.kept; held = c.read.ensures.locks } in
+    let unsaved : OnlyReads saved locks = record { passes = c.read.ensures.passes; kept = c.read.ensures.kept; held = c.read.ensures.locks } in
     let alone : IsLeftAlone looked.tree = record { history = refl; count = refl } in
     let fault = c.in_err-loaded.field-0.0 in
     rw (p.1, p.2) (does_unread c.args.flags looked saved locks _ _ alone (passes_same looked.tree.old) c.read.ensures.passes unsaved fault
@@ -46,7 +47,7 @@ returns-in_err-mixed g c =
     } in
     let saved : Saved = record { old = course (g.S.Shelf.history c.args.shelf.now) (g.S.Shelf.images c.args.shelf.now); new = course (g.S.Shelf.history c.read.new.shelf) (g.S.Shelf.images c.read.new.shelf) } in
     let locks : Count = record { before = g.S.Shelf.held c.args.shelf.now; after = g.S.Shelf.held c.read.new.shelf } in
-    let unsaved : OnlyAsksBelow saved locks = record { passes = c.read.ensures.passes; kept = c.read.ensures.kept; held = c.read.ensures.locks } in
+    let unsaved : OnlyReads saved locks = record { passes = c.read.ensures.passes; kept = c.read.ensures.kept; held = c.read.ensures.locks } in
     let alone : IsLeftAlone looked.tree = record { history = refl; count = refl } in
     let fault = c.in_err-mixed.field-0.0 in
     let docket = docket_of c.in_ok-loaded.loaded.shown.items in
@@ -73,13 +74,13 @@ returns-in_err-notes g c =
     let t = table c.in_ok-mixed.mixed in
     let loaded = loaded_table (listed_to end looked).shelf behind c.in_ok-loaded.loaded c.in_ok-mixed.mixed c.show.ensures.only.passes.past found (c.in_ok-mixed.ensures.0, c.in_ok-mixed.ensures.2) in
     let only = passes_trans start behind end c.read.ensures.passes c.show.ensures.only.passes in
-    let unsaved : OnlyAsksBelow saved locks = record {
+    let unsaved : OnlyReads saved locks = record {
       passes = only;
       kept = goes_trans saved.old (course behind (g.S.Shelf.images c.read.new.shelf)) saved.new c.read.ensures.kept c.show.ensures.only.kept;
       held = c.show.ensures.only.held ∙ c.read.ensures.locks;
     } in
     rw (p.1, p.2) (does_unshown c.args.flags looked saved locks _ _ behind end (g.S.Shelf.faults c.read.new.shelf) (g.S.Shelf.faults c.show.new.shelf) t c.read.ensures.passes c.show.ensures.only.passes
-    (extends_same end) loaded c.read.ensures.asked only (λ told. record { some = 0; made = sym (append-nil end.asked) }) unsaved (record { passes = unsaved.passes; kept = unsaved.kept; held = unsaved.held }) (λ failed. rw (sym c.in_ok-loaded.ensures.cause.quiet) failed)
+    (extends_same end) loaded c.read.ensures.asked only unsaved.kept (λ told. record { some = 0; made = sym (append-nil end.asked) }) unsaved (λ failed. rw (sym c.in_ok-loaded.ensures.cause.quiet) failed)
     (λ same. same ∙ c.in_ok-loaded.ensures.cause.quiet)
     c.in_err-notes.field-0.0 c.in_err-notes.ensures.shows)
 
@@ -118,7 +119,7 @@ returns-in_err-save_notes g c =
     locks.before (g.S.Shelf.held c.show.new.shelf) locks.after quiet (c.show.ensures.only.held ∙ c.read.ensures.locks) _ (c.in_err-save_notes.ensures.saves start t since news) in
     let fault = c.in_err-save_notes.field-0.0 in
     rw (p.1, p.2) (does_unsaved c.args.flags looked saved locks _ _ behind end (g.S.Shelf.faults c.read.new.shelf) (g.S.Shelf.faults c.show.new.shelf) t c.read.ensures.passes c.show.ensures.only.passes
-    c.save_notes.ensures.kept.past loaded c.read.ensures.asked only c.in_ok-notes.notes c.in_ok-notes.ensures.shows (of_save fault) saving c.save_notes.ensures.asked
+    c.save_notes.ensures.kept.past loaded c.read.ensures.asked only (goes_trans saved.old (course end (g.S.Shelf.images c.show.new.shelf)) saved.new first c.save_notes.ensures.kept) c.in_ok-notes.notes c.in_ok-notes.ensures.shows (of_save fault) saving c.save_notes.ensures.asked
     (save_met looked.shelf saved fault (λ is. rw (sym quiet) (c.in_err-save_notes.ensures.cause.rose is)) (elim c.in_err-save_notes.ensures.unwritten [
       | inl is ↦ inl is
       | inr none ↦ inr (unwritten_then saved.old (course end (g.S.Shelf.images c.show.new.shelf)) saved.new only c.save_notes.ensures.kept none)
@@ -157,7 +158,7 @@ returns g c =
     let saving = saves_earlier saved.old (course end (g.S.Shelf.images c.show.new.shelf)) saved.new only first c.save_notes.ensures.kept (IsTryOf start end c.in_ok-loaded.loaded t c.in_ok-mixed.mixed since) t c.in_ok-notes.notes looked.shelf.before (g.S.Shelf.faults c.show.new.shelf) looked.shelf.after
     locks.before (g.S.Shelf.held c.show.new.shelf) locks.after quiet (c.show.ensures.only.held ∙ c.read.ensures.locks) _ (c.in_ok-save_notes.ensures.saves start t since news) in
     does_saved c.args.flags looked saved locks _ _ behind end (g.S.Shelf.faults c.read.new.shelf) (g.S.Shelf.faults c.show.new.shelf) t c.read.ensures.passes c.show.ensures.only.passes
-    c.save_notes.ensures.kept.past loaded c.read.ensures.asked only c.in_ok-notes.notes c.in_ok-notes.ensures.shows tt saving c.save_notes.ensures.asked (c.in_ok-save_notes.ensures.cause.quiet ∙ quiet)
+    c.save_notes.ensures.kept.past loaded c.read.ensures.asked only (goes_trans saved.old (course end (g.S.Shelf.images c.show.new.shelf)) saved.new first c.save_notes.ensures.kept) c.in_ok-notes.notes c.in_ok-notes.ensures.shows tt saving c.save_notes.ensures.asked (c.in_ok-save_notes.ensures.cause.quiet ∙ quiet)
 
 pub save_notes-requires-clause-can : goal.save_notes-requires-clause-can
 save_notes-requires-clause-can g c =

@@ -5,7 +5,7 @@ use Rattle.hg_session.proofs.Locks.{not_taken_by, noted_taken, refused_by, taken
 use Rattle.hg_session.proofs.SavedNotes.{asked_none, once_asked, once_cause, once_either, unwritten_locked, saves_blank, saves_locked, saves_not_taken, saves_refused}
 use Rattle.hg_session.specs.Change.{IsUnwritten}
 use Rattle.hg_session.specs.Locks.{TakenAt}
-use Rattle.hg_session.specs.Saving.{IsOpenedSince, IsTryOf}
+use Rattle.hg_session.specs.SavingNotes.{IsOpenedSince, IsTryOf}
 use Rattle.hg_shelf.proofs.Histories.{extends_trans}
 use Rattle.hg_shelf.proofs.Scenes.{goes_trans}
 use Rattle.hg_shelf.specs.Images.{Course, course}
