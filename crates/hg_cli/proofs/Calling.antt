@@ -3,7 +3,7 @@ use Rattle.std.proofs.Common.{ℕ, List, Option, None, inl, inr, sym, subst}
 use Rattle.hg_cli.proofs.Following.{Follows, PartsFollow, call_follows}
 use Rattle.hg_cli.proofs.Lists.{Kept, Steps, back, each, none_before, stay_safe}
 use Rattle.hg_cli.specs.Calls.{Calls, EachCallIsSafe, Leads, OthersKeep, StaySafe, devices}
-use Rattle.hg_cli.specs.Kinds.{kind_of, one_command}
+use Rattle.hg_cli.specs.Kinds.{kind_of}
 use Rattle.hg_cli.specs.Run.{Carries, IsRun, IsStopped, made_carried, made_run}
 use Rattle.hg_cli.specs.Said.{plainly, safely}
 use Rattle.hg_cli.specs.Seen.{Seen, Views, saved_over, seen, shelf_course}

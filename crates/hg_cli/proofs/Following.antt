@@ -62,18 +62,16 @@ module _ {D : Type 0} (Premise Kept : D → Type 0) where
   module _ (does says : Said D) (follow : PartsFollow does says) where
     by_name : (is : Bool) (met : Fault) (words : List (List ℕ))
         → Follows (λ old new code fault. MatchBool is (does.Stops met old new code fault) (does.Runs words old new code fault)) (λ old new code fault. MatchBool is (says.Stops met old new code fault) (says.Runs words old new code fault))
-    by_name true met words = record { back = (follow.stops met).back; each = (follow.stops met).each }
-    by_name false met words = record { back = (follow.runs words).back; each = (follow.runs words).each }
+    by_name true met words = follow.stops met
+    by_name false met words = follow.runs words
 
     line_follows : (number : ℕ) (words : List (List ℕ)) → Follows (ServesLine does number words) (ServesLine says number words)
-    line_follows number [] = record { back = follow.rests.back; each = follow.rests.each }
-    line_follows number (name ∷ words) =
-        let by = by_name (bytes_eq name script_name) (a_fault.ScriptNested number) (name ∷ words) in
-        record { back = by.back; each = by.each }
+    line_follows number [] = follow.rests
+    line_follows number (name ∷ words) = by_name (bytes_eq name script_name) (a_fault.ScriptNested number) (name ∷ words)
 
     turn_follows : (turn : Turn) → Follows (ServesTurn does turn) (ServesTurn says turn)
-    turn_follows (Line number line) = record { back = (line_follows number (words_of line)).back; each = (line_follows number (words_of line)).each }
-    turn_follows (Refused met) = record { back = (follow.stops (of_line met)).back; each = (follow.stops (of_line met)).each }
+    turn_follows (Line number line) = line_follows number (words_of line)
+    turn_follows (Refused met) = follow.stops (of_line met)
 
     script_follows : (from to : Option (List ℕ)) → Follows (RunsScript (ServesTurn does) from to) (RunsScript (ServesTurn says) from to)
     script_follows from to = record {
@@ -84,5 +82,5 @@ module _ {D : Type 0} (Premise Kept : D → Type 0) where
     }
 
     pub call_follows : (kind : Kind) (words : List (List ℕ)) (from to : Option (List ℕ)) → Follows (Serves does kind words from to) (Serves says kind words from to)
-    call_follows one_command words from to = record { back = (follow.runs words).back; each = (follow.runs words).each }
-    call_follows a_script words from to = record { back = (script_follows from to).back; each = (script_follows from to).each }
+    call_follows one_command words from to = follow.runs words
+    call_follows a_script words from to = script_follows from to

@@ -1,5 +1,5 @@
 -- What holds of each call of a list.
-use Rattle.std.proofs.Common.{ℕ, ◌≤◌, ◌<◌, ◌+◌, ◌⊎◌, List, Option, None, IsTrue, sym, ◌∙◌, subst, arith, inl, inr}
+use Rattle.std.proofs.Common.{ℕ, ◌≤◌, ◌<◌, ◌+◌, ◌⊎◌, IsTrue, sym, ◌∙◌, subst, arith, inl, inr}
 use Rattle.hg_base.proofs.Runs.{says_each}
 use Rattle.hg_cli.specs.Calls.{IsSoundShelf, KeepsAll, OthersKeep, StaySafe}
 use Rattle.hg_save.proofs.Published.{keeps_later, orderly_same}

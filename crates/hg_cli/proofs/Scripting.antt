@@ -1,6 +1,6 @@
 -- What the line of a script does where it has no words, or where there is no memory for them.
 use Rattle.std.proofs.Common.{◌≡◌, ℕ, ◌<◌, Bool, true, false, cond, List, [], ◌∷◌, length, Option, Some, None, Ok, Err, refl, sym, ap, ◌∙◌, subst, arith, eqb, inl, inr}
-use Rattle.std.specs.Prelude.{IfSome, MatchBool, Result, is_some, ◌⊎◌}
+use Rattle.std.specs.Prelude.{IfSome, MatchBool, is_some, ◌⊎◌}
 use Rattle.std.specs.List.{slice_get, slice_split}
 use Rattle.std.specs.Str.{bytes_eq}
 use Rattle.std.proofs.lemmas.Bool.{eq-eqb, ne_eqb}

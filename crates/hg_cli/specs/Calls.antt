@@ -36,8 +36,8 @@ pub record KeepsAll (first last : Course) : Type 0 where
   pub shelf : IsSoundShelf last
   pub keeping : KeepsUsed us last.history first.history.last
 
--- each call of every list of calls, as they are said plainly, is what is said of it with safety, with others publishing between and beside them, from a first
--- shelf on that is sound; and it is at the end. The data that dockets name are kept throughout, which is what a load asks of others
+-- every list of calls that are so plainly is one of calls that are so safely, with others publishing between and beside them, from a first shelf on that is
+-- sound; and it is at the end. The data that dockets name are kept throughout, which is what a load asks of others
 abbrev pub StaySafe : {C S : Type 0} → (S → Course) → (C → S → S → Type 0) → (C → S → S → Type 0) → Type 0
 StaySafe {C = C} {S = S} course_of Plain Safe =
     (calls : List C) (first last : S) → IsSoundShelf (course_of first) → OthersKeep (course_of first) (course_of last) → RunsEach Plain calls first last

@@ -1,5 +1,5 @@
 -- What a load does: two statuses over a working copy that is made in memory, told by the numbers of their rows.
-use Rattle.std.specs.Prelude.{ℕ, ◌≡◌, ◌*◌, ◌⊎◌, ◌≤◌, true, false, List, [], length, drop, Option, Some, None, IfSome}
+use Rattle.std.specs.Prelude.{ℕ, ◌≡◌, ◌*◌, ◌⊎◌, true, false, List, [], length, drop, Option, Some, None, IfSome}
 use Rattle.hg_alone.specs.Alone.{files_of, tree_alone}
 use Rattle.hg_cli.specs.Lines.{lines_with}
 use Rattle.hg_cli.specs.Reading.{count_read}

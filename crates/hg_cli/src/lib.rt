@@ -6,7 +6,7 @@
 //! `internals.dirstate-v2`), what the plain store has of its first parent and the ignore patterns of `.hgignore`; `debugdirstate`, which
 //! prints what a dirstate records; `add`, `forget`, `remove`, `copy` and `debugsetparents`, which change it; `debugscript`, a command a line;
 //! `debugload`, which runs two statuses over a large working copy in memory. All that is promised of the program stands in the contract of `run`;
-//! that it keeps what a crash may leave over every list of runs, scripts included, in that of `each_call_is_safe`.
+//! that it keeps what a crash may leave over every list of calls, scripts included, in that of `each_call_is_safe`.
 //!
 //! ```text
 //! let outcome = run(alloc, &words, &mut tree, &mut shelf, &mut Builds::new(), &mut input, &mut out, &mut err);
