@@ -69,6 +69,12 @@ module _ (asks : Asking) (same : AsksAlike asks) (Premise : Type 0) (p1 p2 : Lis
       state_kept old mid new first (extends_trans mid later new second.past third.past) wanted ignore kept needed
       (left.patterns needed (ap (option_map (λ (r : FlatRow). marks_of (view r.entry))) (none_is (row_at rows path) none)))
 
+  -- all that a comparison of a path that is left asked for was there
+  pub whole_served : (a : List Row) → AddsBy asks Premise (IsLeftAsked store asks id later mid.last files since) store id (trees.now mid) wanted rows [] a → Narrows asks wanted flat
+      → (path : List ℕ) → Left path → IsAsked asks (trees.now old) path → IsServed store id (trees.now old) path
+  whole_served a added =
+      served_path p1 p2 (row_at rows) store id (trees.now old) wanted (named rows) asks Premise Left rows (holds_rows rows own) a (tracked_whole [] a added)
+
   module _ (a d : List Row) (added : AddsBy asks Premise (IsLeftAsked store asks id later mid.last files since) store id (trees.now mid) wanted rows [] a) (ignore : Option (List Piece)) (kept : IsKeptState wanted old mid ignore)
       (known : Known) (are : AreKnown known later mid.last) (serve : AreServed known (Gives wanted (pieces_of ignore)) later mid.last) (others : ListsOthers keeps known wanted (pieces_of ignore) later new a d) where
     -- of the paths that are left the rows are the full listing
@@ -76,9 +82,3 @@ module _ (asks : Asking) (same : AsksAlike asks) (Premise : Type 0) (p1 p2 : Lis
     whole_listing premise =
         full_for p1 p2 (row_at rows) store id (trees.now old) wanted (named rows) asks Premise Left rows own (holds_rows rows own) a others.whole (tracked_whole [] a added)
         (pieces_of ignore) (state_start ignore kept) (lists_whole known (pieces_of ignore) a others.whole are serve others.listed) premise others.sorted d others.moved others.order others.once
-
-    -- all that a comparison of one of them asked for was there
-    pub whole_served : Narrows asks wanted flat → (path : List ℕ) → Left path → IsAsked asks (trees.now old) path → IsServed store id (trees.now old) path
-    whole_served =
-        served_path p1 p2 (row_at rows) store id (trees.now old) wanted (named rows) asks Premise Left rows own (holds_rows rows own) a others.whole (tracked_whole [] a added)
-        (pieces_of ignore) (state_start ignore kept) (lists_whole known (pieces_of ignore) a others.whole are serve others.listed)

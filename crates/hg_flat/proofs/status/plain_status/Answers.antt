@@ -74,8 +74,7 @@ returns-clause-served g c =
     if_ok_on c.list_others.result _ _
     (λ listed others store.
     whole_served asks (marks_alike c.args.wanted (flat_in flat)) (Unit {0}) flat.p1.0 flat.p2.0 flat.rows.items flat.own c.args.wanted c.args.p1.now old mid later new c.read_patterns.ensures.passes c.add_each.ensures.passes c.list_others.ensures.passes files start.last
-    store c.add_each.new.rows.items listed.rows ((rw c.new-rows.ensures.items at c.in_ok-add_each.ensures.added) store) c.in_ok-ignore.ignore c.in_ok-ignore.ensures.kept
-    nothing_known (known_none later mid.last c.add_each.ensures.passes.past.later) (served_none (Gives c.args.wanted (pieces_of c.in_ok-ignore.ignore)) later mid.last) others (λ m path asked. asked))
+    store c.add_each.new.rows.items ((rw c.new-rows.ensures.items at c.in_ok-add_each.ensures.added) store) (λ m path asked. asked))
     c.list_others.ensures.listed
 
 -- ---- the patterns
