@@ -21,7 +21,7 @@ pub fit_of : (dir : Option (List ℕ)) (names : List (List ℕ)) (name : List �
 fit_of dir names name fit among =
     All-contains (IsFit dir) names name fit.each (Contains-from_any (λ x y. (bytes_eq-Decides x y).0) name names among)
 
-no_dir : (o : Option Placed) → (IsTrue (is_some o) → ⊥) → is_dir o ≡ false
+pub no_dir : (o : Option Placed) → (IsTrue (is_some o) → ⊥) → is_dir o ≡ false
 no_dir None h = refl
 no_dir (Some placed) h = absurd (h refl)
 

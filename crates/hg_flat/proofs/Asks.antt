@@ -23,7 +23,8 @@ use Rattle.hg_tree.proofs.Stillness.{ours_untouched}
 use Rattle.hg_compare.specs.Same.{Reads}
 use Rattle.hg_flat.specs.Asked.{AsksFor, AsksNothing, AsksReads, IsDirAmong, IsDirBelow, IsDirFrom, IsDirIn}
 use Rattle.hg_flat.specs.Listing.{HoldsFor, IsVisibleFrom, holds_repository, is_from, is_inside}
-use Rattle.hg_flat.specs.Passed.{WasDir, WasKind, WasNoDir}
+use Rattle.hg_flat.specs.Passed.{Known, WasDir, WasKind, WasNoDir}
+use Rattle.hg_flat.specs.Serving.{IsDirWithin}
 use Rattle.hg_flat.proofs.Alike.{dir_seen}
 use Rattle.hg_flat.proofs.Among.{fit_of}
 use Rattle.hg_flat.proofs.Unknowns.{apart_up, back, from_below, from_cases, from_same, inside_joined, same_of, visible_up}
@@ -103,7 +104,7 @@ dir_longer mid new second start path was = record {
   is = ap (λ (m : Moment). is_dir (m.things path)) (second.stay was.moment was.past) ∙ was.is;
 }
 
-none_longer : (mid new : History) → Extends mid new → (start : ℕ) (path : List ℕ) → WasNoDir mid start path → WasNoDir new start path
+pub none_longer : (mid new : History) → Extends mid new → (start : ℕ) (path : List ℕ) → WasNoDir mid start path → WasNoDir new start path
 none_longer mid new second start path was = record {
   moment = was.moment;
   begun = was.begun;
@@ -112,7 +113,7 @@ none_longer mid new second start path was = record {
 }
 
 -- what is asked over a span is so over a longer one
-from_longer : (E : List ℕ → Type 0) (since mid new : History) → Extends mid new → (from : List ℕ) (dir : Option (List ℕ)) → IsDirFrom E since mid from dir → IsDirFrom E since new from dir
+pub from_longer : (E : List ℕ → Type 0) (since mid new : History) → Extends mid new → (from : List ℕ) (dir : Option (List ℕ)) → IsDirFrom E since mid from dir → IsDirFrom E since new from dir
 from_longer E since mid new second from dir d = record {
   path = d.path;
   is = d.is;
@@ -150,29 +151,29 @@ seen_then since mid past path was ours =
     (ap (λ (m : Moment). kind_at m path) (sym (ap mid.at at ∙ past.past.stay since.last (omega arith))) ∙ sym was.is)
 
 -- a directory that was seen at a path
-pub look_asks : (E : List ℕ → Type 0) (since old mid new : History) → Passes since old → Passes old mid → Extends mid new → (path text again : List ℕ) → text ≡ path → again ≡ path → (kind : Option Kind) → kind ≡ Some a_kind.Dir → WasKind mid since.last again kind
-    → E path → AsksNothing old mid → AsksFor (IsDirIn E since new (Some text)) mid new → AsksFor (IsDirFrom E since new path) old new
-look_asks E since old mid new before first second path text again same too kind is was here none asks =
+pub look_asks : (known : Known) (E : List ℕ → Type 0) (since old mid new : History) → Passes since old → Passes old mid → Extends mid new → (path : List ℕ) (kind : Option Kind) → kind ≡ Some a_kind.Dir → WasKind mid since.last path kind
+    → (known.served path ≡ false → E path) → AsksNothing old mid → AsksFor (IsDirWithin known E since new path) mid new → AsksFor (IsDirFrom E since new path) old new
+look_asks known E since old mid new before first second path kind is was here none asks =
     asks_then (IsDirFrom E since new path) old mid new none
-    (asks_weaker (IsDirIn E since new (Some text)) (IsDirFrom E since new path) mid new
+    (asks_weaker (IsDirWithin known E since new path) (IsDirFrom E since new path) mid new
     (λ dir.
     elim [
       | inl at ↦ record {
         path = path;
-        is = at ∙ ap Some same;
-        entered = here;
+        is = at.0;
+        entered = here at.1;
         inside = from_same path path refl;
         was = dir_there mid new second since.last path seen;
         apart = λ d from_there below. absurd (never_between path d from_there below);
         stands = λ ours. seen_then since mid (passes_trans since old mid before first) path seen (ours_first since mid new second ours);
         visible = λ ours. itself_visible (now since) path;
       }
-      | inr below ↦ in_path dir (subst (λ (t : List ℕ). IsDirBelow E since new (Some t) dir) same below)
+      | inr below ↦ in_path dir below
     ])
     asks)
   where
     seen : WasKind mid since.last path (Some a_kind.Dir)
-    seen = subst (λ (q : List ℕ). WasKind mid since.last q (Some a_kind.Dir)) too (subst (WasKind mid since.last again) is was)
+    seen = subst (WasKind mid since.last path) is was
 
     in_path : (dir : Option (List ℕ)) → IsDirBelow E since new (Some path) dir → IsDirFrom E since new path dir
     in_path dir d =
@@ -189,7 +190,7 @@ joined_apart (Some dir) a b plain below =
       | inr higher ↦ back dir (joined (Some dir) a) (below_joined dir a) higher
     ]
 
-one_from : (dir : Option (List ℕ)) (a b path : List ℕ) → has_slash a ≡ false → has_slash b ≡ false → is_from (Some (joined dir a)) path ≡ true → is_from (Some (joined dir b)) path ≡ true → joined dir a ≡ joined dir b
+pub one_from : (dir : Option (List ℕ)) (a b path : List ℕ) → has_slash a ≡ false → has_slash b ≡ false → is_from (Some (joined dir a)) path ≡ true → is_from (Some (joined dir b)) path ≡ true → joined dir a ≡ joined dir b
 one_from dir a b path plain_a plain_b from_a from_b =
     elim (from_cases (joined dir a) path from_a) [
       | inl is_a ↦
@@ -213,7 +214,7 @@ all_at P [] i d all below = absurd (omega (arith, below))
 all_at P (x ∷ xs) zero d all below = all.0
 all_at P (x ∷ xs) (suc i) d all below = all_at P xs i d all.1 (omega (arith, below))
 
-distinct_take : (xs : List (List ℕ)) (i : ℕ) (d : List ℕ) → IsDistinct bytes_eq xs → i < length xs → is_among (get_or xs i d) (take i xs) ≡ true → ⊥
+pub distinct_take : (xs : List (List ℕ)) (i : ℕ) (d : List ℕ) → IsDistinct bytes_eq xs → i < length xs → is_among (get_or xs i d) (take i xs) ≡ true → ⊥
 unfolding IsDistinct
 distinct_take [] i d own below among = absurd (omega (arith, below))
 distinct_take (x ∷ xs) zero d own below among = absurd (cc (among))
@@ -225,7 +226,7 @@ distinct_take (x ∷ xs) (suc i) d own below among =
       | inr later ↦ distinct_take xs i d own.1 (omega (arith, below)) later
     ]
 
-among_take : (name : List ℕ) (names : List (List ℕ)) (i : ℕ) → is_among name (take i names) ≡ true → is_among name names ≡ true
+pub among_take : (name : List ℕ) (names : List (List ℕ)) (i : ℕ) → is_among name (take i names) ≡ true → is_among name names ≡ true
 among_take name names i among =
     ap (is_among name) (sym (take-append-drop i names)) ∙ list_any-append (bytes_eq name) (take i names) (drop i names) ∙ or_left (is_among name (take i names)) (is_among name (drop i names)) among
 

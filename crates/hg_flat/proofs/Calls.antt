@@ -1,5 +1,5 @@
 -- What a whole status asks the tree: first the patterns, then what is compared, and then what is listed.
-use Rattle.std.proofs.Common.{ℕ, ◌≡◌, Bool, true, false, cond, List, [], ◌++◌, map, append-nil, Option, None, refl, sym, ap, ◌∙◌, subst, inl, inr, arith}
+use Rattle.std.proofs.Common.{ℕ, ◌≡◌, Bool, true, false, cond, List, [], ◌++◌, map, append-nil, Option, Some, None, refl, sym, ap, ◌∙◌, subst, inl, inr, arith}
 use Rattle.std.specs.Prelude.{IsTrue}
 use Rattle.hg_ignore.specs.Patterns.{IsGiven, reads_at}
 use Rattle.hg_ignore.specs.Source.{AsksOnce, FileDuring, has_file, the_read}
@@ -10,9 +10,9 @@ use Rattle.hg_tree.specs.declared.asked.Asked.{Asked}
 use Rattle.hg_tree.specs.declared.asked.Asked.TheVariants as an_ask
 use Rattle.hg_tree.proofs.Histories.{extends_same, extends_trans}
 use Rattle.hg_tree.proofs.Spans.{ours_first, passes_trans}
-use Rattle.hg_flat.specs.Asked.{AsksAll, AsksBehind, AsksFor, AsksReads, IsDirIn, IsListedDir, IsPatternsRead, IsTaken, IsVisibleDir, WasTaken, WasVisible, pattern_reads}
+use Rattle.hg_flat.specs.Asked.{AsksAll, AsksBehind, AsksFor, AsksReads, Holding, IsAskedDir, IsDirIn, IsListedDir, IsPatternsRead, IsTaken, IsUnheld, IsUnheldThen, IsVisibleDir, WasTaken, WasUnheld, WasVisible, nothing_holds, pattern_reads}
 use Rattle.hg_flat.specs.Course.{AsksPatterns}
-use Rattle.hg_flat.specs.Listing.{IsEntered}
+use Rattle.hg_flat.specs.Passed.{Known}
 use Rattle.hg_flat.specs.Parent.{Asking, WasAsked}
 use Rattle.hg_flat.specs.Patterns.{needs_patterns}
 use Rattle.hg_listing.specs.declared.row.Wanted.{Wanted}
@@ -61,59 +61,82 @@ visible_in E old new dir (inl is) ours = subst (IsVisibleDir (now old)) (sym is)
 visible_in E old new dir (inr d) ours = subst (IsVisibleDir (now old)) (sym d.is) (d.stands ours, λ above under. d.visible ours above refl under)
 
 -- a directory that is gone into isn't ignored, or I is wanted
-taken_in : (wanted : Wanted) (state : List Piece) (old new : History) (moment : Moment) (dir : Option (List ℕ)) → IsDirIn (IsEntered wanted state) old new None dir → state ≡ Ignore moment → wanted.i ≡ false → IsTaken moment dir
-taken_in wanted state old new moment dir (inl is) at unwanted = subst (IsTaken moment) (sym is) tt
-taken_in wanted state old new moment dir (inr d) at unwanted =
-    subst (IsTaken moment) (sym d.is) (subst (λ (s : List Piece). Ignored s d.path → ⊥) at (d.entered unwanted))
+taken_in : (known : Known) (wanted : Wanted) (state : List Piece) (old new : History) (moment : Moment) (dir : Option (List ℕ)) → IsDirIn (IsAskedDir known wanted state) old new None dir → state ≡ Ignore moment → wanted.i ≡ false → IsTaken moment dir
+taken_in known wanted state old new moment dir (inl is) at unwanted = subst (IsTaken moment) (sym is) tt
+taken_in known wanted state old new moment dir (inr d) at unwanted =
+    subst (IsTaken moment) (sym d.is) (subst (λ (s : List Piece). Ignored s d.path → ⊥) at (d.entered.0 unwanted))
 
 -- so it was at moments of the call
 was_visible_in : (E : List ℕ → Type 0) (old new : History) (dir : Option (List ℕ)) → IsDirIn E old new None dir → WasVisible new old.last dir
 was_visible_in E old new dir (inl is) = subst (WasVisible new old.last) (sym is) tt
 was_visible_in E old new dir (inr d) = subst (WasVisible new old.last) (sym d.is) (d.was, λ above under. d.apart above refl under)
 
-was_taken_in : (wanted : Wanted) (state : List Piece) (old new : History) (dir : Option (List ℕ)) → (IsTrue old.told → IsGiven old new state) → IsDirIn (IsEntered wanted state) old new None dir → wanted.i ≡ false → WasTaken old new dir
-was_taken_in wanted state old new dir given (inl is) unwanted = subst (WasTaken old new) (sym is) tt
-was_taken_in wanted state old new dir given (inr d) unwanted = subst (WasTaken old new) (sym d.is) (record { state = state; given = given; passed = d.entered unwanted })
+was_taken_in : (known : Known) (wanted : Wanted) (state : List Piece) (old new : History) (dir : Option (List ℕ)) → (IsTrue old.told → IsGiven old new state) → IsDirIn (IsAskedDir known wanted state) old new None dir → wanted.i ≡ false → WasTaken old new dir
+was_taken_in known wanted state old new dir given (inl is) unwanted = subst (WasTaken old new) (sym is) tt
+was_taken_in known wanted state old new dir given (inr d) unwanted = subst (WasTaken old new) (sym d.is) (record { state = state; given = given; passed = d.entered.0 unwanted })
 
-module _ (wanted : Wanted) (asks : Asking) (state : List Piece) (old mid later new : History) (first : Passes old mid) (second : Passes mid later) (third : Passes later new)
-    (still : IsOurs old mid → needs_patterns wanted ≡ true → state ≡ Ignore (now old)) (given : needs_patterns wanted ≡ true → IsTrue old.told → IsGiven old new state) where
+-- a directory whose nodes don't serve as its names was unheld at a moment of the call, and, where nobody else steps, is so at the start
+pub record AreUnheld (holds : Holding) (known : Known) (old new : History) : Type 0 where
+  pub was : (dir : List ℕ) → known.served dir ≡ false → IsUnheld holds old new dir
+  pub own : IsOurs old new → (dir : List ℕ) → known.served dir ≡ false → IsUnheldThen holds (now old) (Some dir)
+
+unheld_in : (holds : Holding) (known : Known) (wanted : Wanted) (state : List Piece) (old new : History) (dir : Option (List ℕ)) → AreUnheld holds known old new → IsDirIn (IsAskedDir known wanted state) old new None dir → WasUnheld holds old new dir
+unheld_in holds known wanted state old new dir are (inl is) = subst (WasUnheld holds old new) (sym is) tt
+unheld_in holds known wanted state old new dir are (inr d) = subst (WasUnheld holds old new) (sym d.is) (are.was d.path d.entered.1)
+
+own_unheld_in : (holds : Holding) (known : Known) (wanted : Wanted) (state : List Piece) (old new : History) (dir : Option (List ℕ)) → AreUnheld holds known old new → IsDirIn (IsAskedDir known wanted state) old new None dir → IsOurs old new
+    → IsUnheldThen holds (now old) dir
+own_unheld_in holds known wanted state old new dir are (inl is) ours = subst (IsUnheldThen holds (now old)) (sym is) tt
+own_unheld_in holds known wanted state old new dir are (inr d) ours = subst (IsUnheldThen holds (now old)) (sym d.is) (are.own ours d.path d.entered.1)
+
+-- nothing holds for any
+pub unheld_none : (known : Known) (state : List Piece) (old new : History) → Extends old new → (IsTrue old.told → IsGiven old new state) → AreUnheld nothing_holds known old new
+unheld_none known state old new past given = record {
+  was = λ dir none. record { state = state; given = given; at = old.last; from = omega arith; upto = past.later; none = λ holds. holds };
+  own = λ ours dir none holds. holds;
+}
+
+module _ (holds : Holding) (known : Known) (wanted : Wanted) (asks : Asking) (state : List Piece) (old mid later new : History) (first : Passes old mid) (second : Passes mid later) (third : Passes later new)
+    (still : IsOurs old mid → needs_patterns wanted ≡ true → state ≡ Ignore (now old)) (given : needs_patterns wanted ≡ true → IsTrue old.told → IsGiven old new state) (unheld : needs_patterns wanted ≡ true → AreUnheld holds known old new) where
   -- what the listing goes into
   abbrev Entered : Option (List ℕ) → Type 0
-  Entered dir = (needs_patterns wanted ≡ true) × IsDirIn (IsEntered wanted state) old new None dir
+  Entered dir = (needs_patterns wanted ≡ true) × IsDirIn (IsAskedDir known wanted state) old new None dir
 
-  listed : (dir : Option (List ℕ)) → Entered dir → IsListedDir wanted old new dir
+  listed : (dir : Option (List ℕ)) → Entered dir → IsListedDir holds wanted old new dir
   listed dir (needed, within) = record {
     needed = needed;
-    was = was_visible_in (IsEntered wanted state) old new dir within;
-    entered = λ unwanted. was_taken_in wanted state old new dir (given needed) within unwanted;
+    was = was_visible_in (IsAskedDir known wanted state) old new dir within;
+    entered = λ unwanted. was_taken_in known wanted state old new dir (given needed) within unwanted;
+    unheld = unheld_in holds known wanted state old new dir (unheld needed) within;
     own = λ ours. (
-      visible_in (IsEntered wanted state) old new dir within ours,
-      λ unwanted. taken_in wanted state old new (now old) dir within (still (ours_first old mid new (passes_trans mid later new second third).past ours) needed) unwanted,
+      visible_in (IsAskedDir known wanted state) old new dir within ours,
+      λ unwanted. taken_in known wanted state old new (now old) dir within (still (ours_first old mid new (passes_trans mid later new second third).past ours) needed) unwanted,
     );
+    own_unheld = λ ours. own_unheld_in holds known wanted state old new dir (unheld needed) within ours;
   }
 
-  pub all_asks : AsksPatterns wanted old mid → AsksReads (WasAsked asks mid later) mid later → AsksFor Entered later new → AsksAll wanted asks (IsListedDir wanted old new) old new
+  pub all_asks : AsksPatterns wanted old mid → AsksReads (WasAsked asks mid later) mid later → AsksFor Entered later new → AsksAll wanted asks (IsListedDir holds wanted old new) old new
   all_asks (first_asks, are, is) reads lists = (
     first_asks,
     read_longer wanted old mid new first_asks (passes_trans mid later new second third).past are,
-    behind first_asks asks Entered (IsListedDir wanted old new) old mid later new first.past second.past third.past is reads lists listed,
+    behind first_asks asks Entered (IsListedDir holds wanted old new) old mid later new first.past second.past third.past is reads lists listed,
   )
 
-  pub own_asks : mid.asked ≡ old.asked ++ pattern_reads wanted (now old) → AsksReads (WasAsked asks mid later) mid later → AsksFor Entered later new → AsksBehind (pattern_reads wanted (now old)) asks (IsListedDir wanted old new) old new
-  own_asks is reads lists = behind (pattern_reads wanted (now old)) asks Entered (IsListedDir wanted old new) old mid later new first.past second.past third.past is reads lists listed
+  pub own_asks : mid.asked ≡ old.asked ++ pattern_reads wanted (now old) → AsksReads (WasAsked asks mid later) mid later → AsksFor Entered later new → AsksBehind (pattern_reads wanted (now old)) asks (IsListedDir holds wanted old new) old new
+  own_asks is reads lists = behind (pattern_reads wanted (now old)) asks Entered (IsListedDir holds wanted old new) old mid later new first.past second.past third.past is reads lists listed
 
 -- a status that stops behind the patterns
-pub asks_first : (wanted : Wanted) (asks : Asking) (old new : History) → Extends old new → AsksPatterns wanted old new → AsksAll wanted asks (IsListedDir wanted old new) old new
-asks_first wanted asks old new past (first, are, is) = (
+pub asks_first : (holds : Holding) (wanted : Wanted) (asks : Asking) (old new : History) → Extends old new → AsksPatterns wanted old new → AsksAll wanted asks (IsListedDir holds wanted old new) old new
+asks_first holds wanted asks old new past (first, are, is) = (
   first,
   are,
-  behind first asks (IsListedDir wanted old new) (IsListedDir wanted old new) old new new new past (extends_same new) (extends_same new) is (reads_none (WasAsked asks new new) new new refl) (asks_none (IsListedDir wanted old new) new new refl) (λ dir within. within),
+  behind first asks (IsListedDir holds wanted old new) (IsListedDir holds wanted old new) old new new new past (extends_same new) (extends_same new) is (reads_none (WasAsked asks new new) new new refl) (asks_none (IsListedDir holds wanted old new) new new refl) (λ dir within. within),
 )
 
 -- one that stops among the tracked paths
-pub asks_second : (wanted : Wanted) (asks : Asking) (old mid new : History) → Extends old mid → Extends mid new → AsksPatterns wanted old mid → AsksReads (WasAsked asks mid new) mid new → AsksAll wanted asks (IsListedDir wanted old new) old new
-asks_second wanted asks old mid new past second (first, are, is) reads = (
+pub asks_second : (holds : Holding) (wanted : Wanted) (asks : Asking) (old mid new : History) → Extends old mid → Extends mid new → AsksPatterns wanted old mid → AsksReads (WasAsked asks mid new) mid new → AsksAll wanted asks (IsListedDir holds wanted old new) old new
+asks_second holds wanted asks old mid new past second (first, are, is) reads = (
   first,
   read_longer wanted old mid new first second are,
-  behind first asks (IsListedDir wanted old new) (IsListedDir wanted old new) old mid new new past second (extends_same new) is reads (asks_none (IsListedDir wanted old new) new new refl) (λ dir within. within),
+  behind first asks (IsListedDir holds wanted old new) (IsListedDir holds wanted old new) old mid new new past second (extends_same new) is reads (asks_none (IsListedDir holds wanted old new) new new refl) (λ dir within. within),
 )

@@ -106,6 +106,30 @@ module _ (p1 p2 : List ℕ) (kept : KeptRows) (files : shelves.Files) (id : Id20
       let same = path_is row.path k is in
       inl (k, is, letter_back row.path k row.letter is same tells.1, same_row row (row_under k row.letter) refl (sym same) (tells.2 ∙ ap source_of is))
 
+  module _ (asks : Asking) (Premise : Type 0) (S : List ℕ → Type 0) (rows : List FlatRow) (holds : Holds kept rows) (a : List Row) (tracked : AddsBy asks Premise S files id moment wanted rows [] a) where
+    -- what a comparison asked for was there
+    pub served_path : Narrows asks wanted flat → (path : List ℕ) → S path → IsAsked asks moment path → IsServed files id moment path
+    served_path narrow path meets asked = by (kept path) refl
+      where
+        test : Option FlatRow → Bool
+        test o = (wanted.m || wanted.c) && is_plain_entry (option_map (λ r. marks_of (view r.entry)) o) (is_some (source_of o))
+
+        both : (is_compared wanted flat path ≡ true) × (is_file_or_link (moment.things path) ≡ true)
+        both = and_parts (is_compared wanted flat path) (is_file_or_link (moment.things path)) (narrow moment path asked)
+
+        by : (o : Option FlatRow) → kept path ≡ o → IsServed files id moment path
+        by None is = absurd (never (wanted.m || wanted.c) (sym (ap test is) ∙ both.0))
+          where
+            never : (b : Bool) → (b && false) ≡ true → ⊥
+            never true same = absurd (cc (same))
+            never false same = absurd (cc (same))
+        by (Some k) is =
+            let same : k.path ≡ path = path_is path k is in
+            let of : Contains rows k = holds.all path k is in
+            let from = in_put (IsPutBy asks Premise S files id moment wanted) rows tracked.0 tracked.2 k of in
+            subst (IsServed files id moment) same
+            (from.1.found.served (subst S (sym same) meets) (subst (IsAsked asks moment) (sym same) asked))
+
   module _ (asks : Asking) (Premise : Type 0) (S : List ℕ → Type 0) (rows : List FlatRow) (own : HaveOwnPaths rows) (holds : Holds kept rows) (a b : List Row)
       (tracked : AddsBy asks Premise S files id moment wanted rows [] a) (state : List Piece) (begun : (path : List ℕ) → S path → keeps path ≡ false → needs_patterns wanted ≡ true → state ≡ Ignore moment)
       (lists : ListsUnknown keeps (Gives wanted state) S (IsUnknownIn keeps moment None) a b) where
@@ -232,29 +256,6 @@ module _ (p1 p2 : List ℕ) (kept : KeptRows) (files : shelves.Files) (id : Id20
             let mine : p.path ≡ from.0.path = ap (λ (r : Row). r.path) (put_row from.0 from.1 from.3 p from.4).1 in
             let there : kept q.path ≡ Some from.0 = ap kept (sym at ∙ mine) ∙ holds.found from.0 from.2 in
             let none = none_is (kept q.path) (lists.2.each q second).none in absurd (cc (there, none))
-
-    -- what a comparison asked for was there
-    pub served_path : Narrows asks wanted flat → (path : List ℕ) → S path → IsAsked asks moment path → IsServed files id moment path
-    served_path narrow path meets asked = by (kept path) refl
-      where
-        test : Option FlatRow → Bool
-        test o = (wanted.m || wanted.c) && is_plain_entry (option_map (λ r. marks_of (view r.entry)) o) (is_some (source_of o))
-
-        both : (is_compared wanted flat path ≡ true) × (is_file_or_link (moment.things path) ≡ true)
-        both = and_parts (is_compared wanted flat path) (is_file_or_link (moment.things path)) (narrow moment path asked)
-
-        by : (o : Option FlatRow) → kept path ≡ o → IsServed files id moment path
-        by None is = absurd (never (wanted.m || wanted.c) (sym (ap test is) ∙ both.0))
-          where
-            never : (b : Bool) → (b && false) ≡ true → ⊥
-            never true same = absurd (cc (same))
-            never false same = absurd (cc (same))
-        by (Some k) is =
-            let same : k.path ≡ path = path_is path k is in
-            let of : Contains rows k = holds.all path k is in
-            let from = in_put Put rows tracked.0 tracked.2 k of in
-            subst (IsServed files id moment) same
-            (from.1.found.served (subst S (sym same) meets) (subst (IsAsked asks moment) (sym same) asked))
 
     -- these rows put in order without doubles are the full listing of the paths that meet S
     pub full_for : Premise → (c d : List Row) → IsPermutation b c → IsSorted whole_order c → d ≡ dedup (eq_by_cmp whole_order) c → IsFullFor S flat moment (parent_rows files id) (ignored_at moment) wanted d

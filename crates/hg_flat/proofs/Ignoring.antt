@@ -1,8 +1,9 @@
 -- Which letter a state of ignore patterns gives a path, and which directories are ignored.
 use Rattle.std.proofs.Common.{ℕ, ◌≡◌, Bool, true, false, not, ◌&&◌, ◌||◌, ◌↔◌, List, [], ◌∷◌, ◌++◌, Option, Some, IsTrue, refl, sym, ap, ◌∙◌, subst, inl, inr, ◌⊎◌}
 use Rattle.std.proofs.lemmas.List.{append-nil}
-use Rattle.hg_base.specs.PathText.{has_slash, is_path, joined, parent_of}
+use Rattle.hg_base.specs.PathText.{child_of, has_slash, is_path, joined, parent_of}
 use Rattle.hg_base.specs.Within.{is_within}
+use Rattle.hg_base.proofs.Children.{child_parent}
 use Rattle.hg_base.proofs.Components.{parent_joined}
 use Rattle.hg_base.proofs.Within.{within_below, within_trans}
 use Rattle.hg_ignore.specs.Kept.{DirIgnored}
@@ -63,6 +64,12 @@ pub above_name : (state asked : List Piece) (above : Bool) (dir : Option (List �
 above_name state asked above dir name path same plain is ignored =
     subst (λ (s : List Piece). IsTrue above ↔ DirIgnored s (parent_of path)) (sym same)
     (subst (λ (d : Option (List ℕ)). IsTrue above ↔ DirIgnored state d) (sym (ap parent_of is ∙ parent_joined dir name plain)) ignored)
+
+-- and so is what stands right in it
+pub above_child : (state asked : List Piece) (above : Bool) (dir path name : List ℕ) → asked ≡ state → child_of (Some dir) path ≡ Some name → IsTrue above ↔ DirIgnored state (Some dir) → IsTrue above ↔ DirIgnored asked (parent_of path)
+above_child state asked above dir path name same child is =
+    subst (λ (s : List Piece). IsTrue above ↔ DirIgnored s (parent_of path)) (sym same)
+    (subst (λ (d : Option (List ℕ)). IsTrue above ↔ DirIgnored state d) (sym (child_parent (Some dir) path name child).0) is)
 
 -- a path in an ignored directory is ignored
 pub ignored_above : (state : List Piece) (above : Bool) (path : List ℕ) → is_path path ≡ true → IsTrue above ↔ DirIgnored state (parent_of path) → above ≡ true → IsTrue true ↔ Ignored state path

@@ -12,6 +12,7 @@ pub mod First
 pub mod Fullness
 pub mod Going
 pub mod Holding
+pub mod InNodes
 pub mod Ignoring
 pub mod Judging
 pub mod Leaving

@@ -1,5 +1,5 @@
 -- The steps of a listing, for the paths that nobody touches meanwhile, in the words of the moment at its start.
-use Rattle.std.proofs.Common.{ℕ, ◌≡◌, ◌+◌, ◌<◌, ◌≤◌, Bool, true, false, List, length, take, get_or, Option, Some, None, option_map, IsTrue, refl, sym, ap, ◌∙◌, subst, inl, inr, ◌⊎◌, arith, ◌++◌}
+use Rattle.std.proofs.Common.{ℕ, ◌≡◌, ◌+◌, ◌<◌, ◌≤◌, Bool, true, false, List, length, take, get_or, Option, Some, None, is_some, option_map, IsTrue, refl, sym, ap, ◌∙◌, subst, inl, inr, ◌⊎◌, arith, ◌++◌}
 use Rattle.std.proofs.lemmas.Bool.{and_parts}
 use Rattle.std.proofs.lemmas.List.{append-nil}
 use Rattle.hg_base.specs.declared.stat.Stat.{Stat}
@@ -22,7 +22,7 @@ use Rattle.hg_compare.specs.declared.letter.Letter.{Letter}
 use Rattle.hg_listing.specs.Full.{wants}
 use Rattle.hg_flat.specs.Kept.{Kept}
 use Rattle.hg_flat.specs.Listing.{Gives, GivesLetter, HoldsFor, IsUnknownAmong, IsUnknownFrom, IsUnknownIn, ListsUnknown, PutsUntracked, is_from, rows_if, shows_dir, untracked_row}
-use Rattle.hg_flat.specs.Passed.{AreKnown, Known, ListsFormed, ListsSince, WasDir, WasFormed, WasKind, WasNoDir, nothing_known}
+use Rattle.hg_flat.specs.Passed.{AreKnown, AreServed, Known, ListsFormed, ListsSince, WasDir, WasFormed, WasKind, WasNoDir, WasServed, nothing_known}
 use Rattle.hg_listing.specs.declared.row.Row.{Row}
 use Rattle.hg_listing.specs.declared.row.Wanted.{Wanted}
 use Rattle.hg_flat.proofs.Alike.{alike_back, alike_on, among_moved, dir_alike, dir_by, dir_seen, file_by, file_seen, from_moved, in_moved}
@@ -115,7 +115,7 @@ untouched_since old new start begun past p is = untouched_second new start old.l
 
 -- a listing of what nobody touches is one since any moment before, where nothing was passed over
 pub lists_since : (kept : Kept) (known : Known) (L : List ℕ → Letter → Type 0) (P : List ℕ → Type 0) (old new : History) → Extends old new → (a b : List Row) → ListsUnknown kept L (Untouched new old.last) P a b → ListsSince kept known L old new P a b
-lists_since kept known L P old new past a b lists start are =
+lists_since kept known L P old new past a b lists start are serve =
     lists_moved kept L (Untouched new old.last) (Untouched new start) P P a b (untouched_since old new start are.begun past) (λ p meets u. u) (λ p meets u. u) lists
 
 -- what is known stays so
@@ -142,7 +142,17 @@ known_later known old new start past are = record {
   dirs = λ told path is. dir_later old new start path past (are.dirs (sym past.told ∙ told) path is);
 }
 
-formed_later : (old new : History) (start : ℕ) → Extends old new → WasFormed old start → WasFormed new start
+pub served_later : (known : Known) (L : List ℕ → Letter → Type 0) (old new : History) (start : ℕ) → Extends old new → AreServed known L old start → AreServed known L new start
+served_later known L old new start past serve told dir is =
+    let was : WasServed known L old start dir = serve (sym past.told ∙ told) dir is in record {
+      moment = was.moment;
+      begun = was.begun;
+      past = omega (arith, was.past, past.later);
+      names = λ name component stands.
+          was.names name component (ap (λ (m : Moment). is_some (m.things (joined (Some dir) name))) (sym (past.stay was.moment was.past)) ∙ stands);
+    }
+
+pub formed_later : (old new : History) (start : ℕ) → Extends old new → WasFormed old start → WasFormed new start
 formed_later old new start past was = record {
   moment = was.moment;
   begun = was.begun;
@@ -154,10 +164,13 @@ formed_later old new start past was = record {
 pub known_none : (h : History) (start : ℕ) → start ≤ h.last → AreKnown nothing_known h start
 known_none h start begun = record { begun = begun; none = λ told path is. absurd (cc (is)); dirs = λ told path is. absurd (cc (is)) }
 
+pub served_none : (L : List ℕ → Letter → Type 0) (h : History) (start : ℕ) → AreServed nothing_known L h start
+served_none L h start told dir is = absurd (cc (is))
+
 -- ---- a path that was passed
 
 -- an untouched path is alike now and at a moment that was well-formed
-alike_since : (old : History) (start : ℕ) (formed : WasFormed old start) → start ≤ old.last → (p : List ℕ) → Untouched old start p → AreAlike (now old) (old.at formed.moment) p
+pub alike_since : (old : History) (start : ℕ) (formed : WasFormed old start) → start ≤ old.last → (p : List ℕ) → Untouched old start p → AreAlike (now old) (old.at formed.moment) p
 alike_since old start formed begun p is =
     alike_on (now old) (old.at start) (old.at formed.moment) p (alike_at old start old.last p begun (omega arith) is)
     (alike_back (old.at formed.moment) (old.at start) p (alike_at old start formed.moment p formed.begun formed.past is))
@@ -186,7 +199,7 @@ module _ (kept : Kept) (old : History) (start : ℕ) (path : List ℕ) (is_kept 
 
 pub look_passed : (kept : Kept) (known : Known) (wanted : Wanted) (state : List Piece) (old : History) (path text : List ℕ) (rows : List Row) → text ≡ path → kept text ≡ true → known.none text ≡ true
     → ListsFormed kept known (Gives wanted state) old old (IsUnknownFrom kept (now old) path) rows rows
-look_passed kept known wanted state old path text rows same is_kept is_passed start are formed =
+look_passed kept known wanted state old path text rows same is_kept is_passed start are serve formed =
     lists_none kept (Gives wanted state) (Untouched old start) (IsUnknownFrom kept (now old) path) rows
     (λ p l is u gives.
     nothing_passed kept old start path (ap kept (sym same) ∙ is_kept) (are.none is.told path (ap known.none (sym same) ∙ is_passed)) (formed is.told) are.begun p is u)
@@ -201,7 +214,7 @@ record Found (kind : Option Kind) (old : History) (path p : List ℕ) : Type 0 w
   pub is : is_from (Some path) p ≡ true → kind_at moment path ≡ kind
 
 -- what stands at a path from which an untouched one is keeps its kind
-kind_stays : (h : History) (start : ℕ) (path p : List ℕ) → is_from (Some path) p ≡ true → Untouched h start p → (k : ℕ) → start ≤ k → k ≤ h.last → kind_at (h.at k) path ≡ kind_at (h.at start) path
+pub kind_stays : (h : History) (start : ℕ) (path p : List ℕ) → is_from (Some path) p ≡ true → Untouched h start p → (k : ℕ) → start ≤ k → k ≤ h.last → kind_at (h.at k) path ≡ kind_at (h.at start) path
 kind_stays h start path p from is k begun upto =
     elim (from_cases path p from) [
       | inl same ↦
@@ -308,7 +321,7 @@ module _ (kept : Kept) (wanted : Wanted) (state : List Piece) (old mid new : His
 -- of a directory that is ignored nothing is wanted where I isn't
 pub look_left : (kept : Kept) (known : Known) (wanted : Wanted) (state : List Piece) (old new : History) (path : List ℕ) (rows : List Row) → wanted.i ≡ false → Ignored state path
     → ListsFormed kept known (Gives wanted state) old new (IsUnknownFrom kept (now old) path) rows rows
-look_left kept known wanted state old new path rows unwanted ignored start are formed =
+look_left kept known wanted state old new path rows unwanted ignored start are serve formed =
     lists_none kept (Gives wanted state) (Untouched new start) (IsUnknownFrom kept (now old) path) rows
     (λ p l is u gives. none_left wanted state path p l unwanted ignored u.inside gives)
 
@@ -350,7 +363,7 @@ pub visit_rest : (kept : Kept) (known : Known) (wanted : Wanted) (state : List P
     → (these text again : List (List ℕ)) (found : Bool) (a b : List Row) → names ≡ Some these → text ≡ these → again ≡ these
     → (AreNames (now mid) dir text → HoldsFor (Untouched later mid.last) (now mid) dir found) → found ≡ false
     → ListsFormed kept known (Gives wanted state) later new (IsUnknownAmong kept (now later) dir again) a b → ListsSince kept known (Gives wanted state) old new (IsUnknownIn kept (now old) dir) a b
-visit_rest kept known wanted state old mid later new first second third dir names named these text again found a b some same too holds is_false lists start are =
+visit_rest kept known wanted state old mid later new first second third dir names named these text again found a b some same too holds is_false lists start are serve =
     lists_moved kept (Gives wanted state) (Untouched new start) (Untouched new start) (IsUnknownAmong kept (now later) dir again) (IsUnknownIn kept (now old) dir) a b
     (λ p is. is)
     (λ p is (name, among, u).
@@ -368,7 +381,7 @@ visit_rest kept known wanted state old mid later new first second third dir name
     among_moved kept (now old) (now later) p (alike_then old later new past third p (own p is)) dir again
     (among_moved kept (now mid) (now old) p (alike_now old mid new first rest p (own p is)) dir again
     (backward kept (now mid) (formed_at mid dir names n) dir again p (these_names dir names these again (now mid) some too n.listed) at)))
-    (lists start (known_later known old later start past are) (λ is. formed_later mid later start second (listed_formed (named (sym past.told ∙ is)))))
+    (lists start (known_later known old later start past are) (served_later known (Gives wanted state) old later start past serve) (λ is. formed_later mid later start second (listed_formed (named (sym past.told ∙ is)))))
   where
     past : Extends old later
     past = extends_trans old mid later first second
@@ -392,16 +405,16 @@ pub each_more : (kept : Kept) (known : Known) (wanted : Wanted) (state : List Pi
     → i < length names → name ≡ get_or names i name → text ≡ name → path ≡ joined dir text
     → ListsFormed kept known (Gives wanted state) old mid (IsUnknownAmong kept (now old) dir (take i names)) a b → ListsFormed kept known (Gives wanted state) mid new (IsUnknownFrom kept (now mid) path) b c
     → ListsFormed kept known (Gives wanted state) old new (IsUnknownAmong kept (now old) dir (take (i + 1) names)) a c
-each_more kept known wanted state old mid new first second dir names i name text path a b c below is same at before one start are formed =
+each_more kept known wanted state old mid new first second dir names i name text path a b c below is same at before one start are serve formed =
     among_more kept (Gives wanted state) (Untouched new start) (now old) dir names i name a b c below (sym is)
     (lists_moved kept (Gives wanted state) (Untouched mid start) (Untouched new start) (IsUnknownAmong kept (now old) dir (take i names)) (IsUnknownAmong kept (now old) dir (take i names)) a b
-    (λ p meets. untouched_first mid new start p second (omega (arith, are.begun, first.later)) meets) (λ p meets u. u) (λ p meets u. u) (before start are formed))
+    (λ p meets. untouched_first mid new start p second (omega (arith, are.begun, first.later)) meets) (λ p meets u. u) (λ p meets u. u) (before start are serve formed))
     (lists_moved kept (Gives wanted state) (Untouched new start) (Untouched new start) (IsUnknownFrom kept (now mid) (joined dir name)) (IsUnknownFrom kept (now old) (joined dir name)) b c
     (λ p meets. meets)
     (λ p meets u. from_moved kept (now mid) (now old) p (alike_now old mid new first second p (own p meets)) (joined dir name) u)
     (λ p meets u. from_moved kept (now old) (now mid) p (alike_then old mid new first second p (own p meets)) (joined dir name) u)
     (subst (λ (q : List ℕ). ListsUnknown kept (Gives wanted state) (Untouched new start) (IsUnknownFrom kept (now mid) q) b c) (at ∙ ap (joined dir) same)
-    (one start (known_later known old mid start first are) (λ told. formed_later old mid start first (formed (sym first.told ∙ told))))))
+    (one start (known_later known old mid start first are) (served_later known (Gives wanted state) old mid start first serve) (λ told. formed_later old mid start first (formed (sym first.told ∙ told))))))
   where
     own : (p : List ℕ) → Untouched new start p → Untouched new old.last p
     own p is = untouched_since old new start are.begun (extends_trans old mid new first second) p is

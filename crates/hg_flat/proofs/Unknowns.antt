@@ -81,9 +81,22 @@ lists_trans kept L S P Q a b c (xs, is, first) (ys, also, second) =
 pub lists_moved : (kept : Kept) (L : List ℕ → Letter → Type 0) (S T P Q : List ℕ → Type 0) (old new : List Row) → ((p : List ℕ) → T p → S p) → ((p : List ℕ) → T p → P p → Q p) → ((p : List ℕ) → T p → Q p → P p) → ListsUnknown kept L S P old new → ListsUnknown kept L T Q old new
 lists_moved kept L S T P Q old new meets there back (xs, is, are) = (xs, is, unknown_moved kept L S T P Q xs meets there back are)
 
+-- the same, where what Q says of a path has to imply P only under a letter that it has
+pub lists_moved_by : (kept : Kept) (L : List ℕ → Letter → Type 0) (S T P Q : List ℕ → Type 0) (old new : List Row) → ((p : List ℕ) → T p → S p) → ((p : List ℕ) → T p → P p → Q p)
+    → ((p : List ℕ) (l : Letter) → T p → Q p → L p l → P p) → ListsUnknown kept L S P old new → ListsUnknown kept L T Q old new
+lists_moved_by kept L S T P Q old new meets there back (xs, is, are) = (
+  xs,
+  is,
+  record {
+    each = are.each;
+    sound = λ row has m. there row.path m (are.sound row has (meets row.path m));
+    all = λ path letter m here given. are.all path letter (meets path m) (back path letter m here given) given;
+  },
+)
+
 -- ---- things
 
-some_of_file : (o : Option Placed) → is_file_or_link o ≡ true → is_some o ≡ true
+pub some_of_file : (o : Option Placed) → is_file_or_link o ≡ true → is_some o ≡ true
 some_of_file None h = h
 some_of_file (Some placed) h = refl
 
@@ -224,7 +237,7 @@ module _ (kept : Kept) (moment : Moment) (formed : IsFormed moment) where
     visible = visible_up moment dir name path plain never u.inside u.visible;
   }
 
-  from_joined : (dir : Option (List ℕ)) (name d : List ℕ) → is_from (Some (joined dir name)) d ≡ true → is_from dir d ≡ true
+  pub from_joined : (dir : Option (List ℕ)) (name d : List ℕ) → is_from (Some (joined dir name)) d ≡ true → is_from dir d ≡ true
   from_joined None name d from = refl
   from_joined (Some dir) name d from =
       elim (from_cases (joined (Some dir) name) d from) [
@@ -232,7 +245,7 @@ module _ (kept : Kept) (moment : Moment) (formed : IsFormed moment) where
         | inr below ↦ from_below dir d (below_trans dir (joined (Some dir) name) d (below_joined dir name) below)
       ]
 
-  stands_at : (j path : List ℕ) → is_from (Some j) path ≡ true → is_file_or_link (moment.things path) ≡ true → is_some (moment.things j) ≡ true
+  pub stands_at : (j path : List ℕ) → is_from (Some j) path ≡ true → is_file_or_link (moment.things path) ≡ true → is_some (moment.things j) ≡ true
   stands_at j path from file =
       elim (from_cases j path from) [
         | inl same ↦ subst (λ (q : List ℕ). is_some (moment.things q) ≡ true) (sym same) (some_of_file (moment.things path) file)

@@ -18,7 +18,7 @@ use Rattle.hg_flat.specs.Kept.{HaveOwnPaths, Kept, flat_from, row_at}
 use Rattle.hg_flat.specs.Listing.{Gives, IsUnknownIn, ListsUnknown}
 use Rattle.hg_flat.specs.Others.{ListsOthers}
 use Rattle.hg_flat.specs.Parent.{Asking, IsAsked, IsLeft, IsServed, parent_rows}
-use Rattle.hg_flat.specs.Passed.{AreKnown, Known, ListsSince}
+use Rattle.hg_flat.specs.Passed.{AreKnown, AreServed, Known, ListsSince}
 use Rattle.hg_flat.specs.Patterns.{ignored_at, needs_patterns}
 use Rattle.hg_flat.specs.declared.kept.FlatRow.{FlatRow}
 use Rattle.hg_flat.proofs.Fullness.{Narrows, full_for, none_is, served_path}
@@ -58,10 +58,10 @@ module _ (asks : Asking) (same : AsksAlike asks) (Premise : Type 0) (p1 p2 : Lis
       (λ path left. left_ended store asks same id old mid later first.past second.past files since path (left_then path left))
       (λ path left. alike_between old mid later path first.past second.past (left_then path left).own) added
 
-  lists_whole : (known : Known) (state : List Piece) (a b : List Row) → AreKnown known later mid.last
+  lists_whole : (known : Known) (state : List Piece) (a b : List Row) → AreKnown known later mid.last → AreServed known (Gives wanted state) later mid.last
       → ListsSince keeps known (Gives wanted state) later new (IsUnknownIn keeps (trees.now later) None) a b → ListsUnknown keeps (Gives wanted state) Left (IsUnknownIn keeps (trees.now old) None) a b
-  lists_whole known state a b are lists =
-      lists_later old later new past third.past mid.last first.past.later second.past.later keeps (Gives wanted state) Left (λ path left. left.own) a b (lists mid.last are)
+  lists_whole known state a b are serve lists =
+      lists_later old later new past third.past mid.last first.past.later second.past.later keeps (Gives wanted state) Left (λ path left. left.own) a b (lists mid.last are serve)
 
   -- where the patterns decide the letter of a path that is left, they are those of the start
   state_start : (ignore : Option (List Piece)) → IsKeptState wanted old mid ignore → (path : List ℕ) → Left path → keeps path ≡ false → needs_patterns wanted ≡ true → pieces_of ignore ≡ Ignore (trees.now old)
@@ -69,16 +69,16 @@ module _ (asks : Asking) (same : AsksAlike asks) (Premise : Type 0) (p1 p2 : Lis
       state_kept old mid new first (extends_trans mid later new second.past third.past) wanted ignore kept needed
       (left.patterns needed (ap (option_map (λ (r : FlatRow). marks_of (view r.entry))) (none_is (row_at rows path) none)))
 
+  -- all that a comparison of a path that is left asked for was there
+  pub whole_served : (a : List Row) → AddsBy asks Premise (IsLeftAsked store asks id later mid.last files since) store id (trees.now mid) wanted rows [] a → Narrows asks wanted flat
+      → (path : List ℕ) → Left path → IsAsked asks (trees.now old) path → IsServed store id (trees.now old) path
+  whole_served a added =
+      served_path p1 p2 (row_at rows) store id (trees.now old) wanted (named rows) asks Premise Left rows (holds_rows rows own) a (tracked_whole [] a added)
+
   module _ (a d : List Row) (added : AddsBy asks Premise (IsLeftAsked store asks id later mid.last files since) store id (trees.now mid) wanted rows [] a) (ignore : Option (List Piece)) (kept : IsKeptState wanted old mid ignore)
-      (known : Known) (are : AreKnown known later mid.last) (others : ListsOthers keeps known wanted (pieces_of ignore) later new a d) where
+      (known : Known) (are : AreKnown known later mid.last) (serve : AreServed known (Gives wanted (pieces_of ignore)) later mid.last) (others : ListsOthers keeps known wanted (pieces_of ignore) later new a d) where
     -- of the paths that are left the rows are the full listing
     pub whole_listing : Premise → IsFullFor Left flat (trees.now old) (parent_rows store id) (ignored_at (trees.now old)) wanted d
     whole_listing premise =
         full_for p1 p2 (row_at rows) store id (trees.now old) wanted (named rows) asks Premise Left rows own (holds_rows rows own) a others.whole (tracked_whole [] a added)
-        (pieces_of ignore) (state_start ignore kept) (lists_whole known (pieces_of ignore) a others.whole are others.listed) premise others.sorted d others.moved others.order others.once
-
-    -- all that a comparison of one of them asked for was there
-    pub whole_served : Narrows asks wanted flat → (path : List ℕ) → Left path → IsAsked asks (trees.now old) path → IsServed store id (trees.now old) path
-    whole_served =
-        served_path p1 p2 (row_at rows) store id (trees.now old) wanted (named rows) asks Premise Left rows own (holds_rows rows own) a others.whole (tracked_whole [] a added)
-        (pieces_of ignore) (state_start ignore kept) (lists_whole known (pieces_of ignore) a others.whole are others.listed)
+        (pieces_of ignore) (state_start ignore kept) (lists_whole known (pieces_of ignore) a others.whole are serve others.listed) premise others.sorted d others.moved others.order others.once

@@ -1,18 +1,18 @@
 -- What a status asks the tree: which directories it lists, and what it reads.
-use Rattle.std.specs.Prelude.{ℕ, ◌≡◌, ◌⊎◌, true, false, if◌then◌else◌, List, [], map, ◌++◌, Option, Some, None, IsTrue}
+use Rattle.std.specs.Prelude.{ℕ, ◌≡◌, ◌≤◌, ◌⊎◌, true, false, if◌then◌else◌, List, [], map, ◌++◌, Option, Some, None, IsTrue}
 use Rattle.std.specs.List.{Contains, IsDistinct}
 use Rattle.hg_base.specs.PathText.{is_below, is_same_dir, joined}
 use Rattle.hg_ignore.specs.Patterns.{AreReads, IsGiven, reads_at}
-use Rattle.hg_ignore.specs.State.{Ignored, Piece}
+use Rattle.hg_ignore.specs.State.{Ignore, Ignored, Piece}
 use Rattle.hg_tree.specs.Moment.{Moment, is_among, is_dir}
 use Rattle.hg_tree.specs.History.{History, IsOurs, now}
 use Rattle.hg_tree.specs.Still.{hg_in}
 use Rattle.hg_tree.specs.declared.asked.Asked.{Asked}
 use Rattle.hg_tree.specs.declared.asked.Asked.TheVariants as an_ask
 use Rattle.hg_listing.specs.Full.{IsVisible}
-use Rattle.hg_flat.specs.Listing.{IsVisibleFrom, is_from, is_inside}
+use Rattle.hg_flat.specs.Listing.{IsEntered, IsVisibleFrom, is_from, is_inside}
 use Rattle.hg_flat.specs.Parent.{Asking, WasAsked}
-use Rattle.hg_flat.specs.Passed.{WasDir, WasNoDir}
+use Rattle.hg_flat.specs.Passed.{Known, WasDir, WasNoDir}
 use Rattle.hg_flat.specs.Patterns.{ignored_at, needs_patterns}
 use Rattle.hg_listing.specs.declared.row.Wanted.{Wanted}
 
@@ -39,6 +39,10 @@ pub record IsDirFrom (E : List ℕ → Type 0) (since new : History) (from : Lis
   pub apart : (d : List ℕ) → IsTrue (is_from (Some from) d) → IsTrue (is_below d path) → WasNoDir new since.last (hg_in d)
   pub stands : IsOurs since new → IsTrue (is_dir ((now since).things path))
   pub visible : IsOurs since new → IsVisibleFrom (now since) (Some from) path
+
+-- a listing lists a directory: it goes into it, and its nodes don't serve as its names
+abbrev pub IsAskedDir : Known → Wanted → List Piece → List ℕ → Type 0
+IsAskedDir known wanted state dir = IsEntered wanted state dir × (known.served dir ≡ false)
 
 -- the same at one of some names of a directory, or below it
 abbrev pub IsDirAmong : (List ℕ → Type 0) → History → History → Option (List ℕ) → List (List ℕ) → Option (List ℕ) → Type 0
@@ -91,13 +95,42 @@ abbrev pub WasTaken : History → History → Option (List ℕ) → Type 0
 WasTaken old new None = Unit {0}
 WasTaken old new (Some dir) = IsPassed old new dir
 
--- a directory that a status may list, where letters of paths without an entry are wanted: whoever else steps it was visible at moments of the call and,
--- unless ignored files are wanted, not ignored by what was read; where nobody else steps it is both at the start
-pub record IsListedDir (wanted : Wanted) (old new : History) (dir : Option (List ℕ)) : Type 0 where
+-- what holds for a directory at a moment, by a state of the patterns, so that a status doesn't list it there
+abbrev pub Holding : Type 1
+Holding = List Piece → Moment → List ℕ → Type 0
+
+-- nothing holds for any directory
+abbrev pub nothing_holds : Holding
+nothing_holds state moment dir = ⊥
+
+-- by a state of the patterns that was read in a call it didn't hold for a directory at a moment of the call
+pub record IsUnheld (holds : Holding) (old new : History) (dir : List ℕ) : Type 0 where
+  pub state : List Piece
+  pub given : IsTrue old.told → IsGiven old new state
+  pub at : ℕ
+  pub from : old.last ≤ at
+  pub upto : at ≤ new.last
+  pub none : ¬ (holds state (new.at at) dir)
+
+-- the root, or such a directory
+abbrev pub WasUnheld : Holding → History → History → Option (List ℕ) → Type 0
+WasUnheld holds old new None = Unit {0}
+WasUnheld holds old new (Some dir) = IsUnheld holds old new dir
+
+-- the root, or a directory for which it doesn't hold by the patterns of a moment
+abbrev pub IsUnheldThen : Holding → Moment → Option (List ℕ) → Type 0
+IsUnheldThen holds moment None = Unit {0}
+IsUnheldThen holds moment (Some dir) = ¬ (holds (Ignore moment) moment dir)
+
+-- a directory that a status may list, where letters of paths without an entry are wanted: whoever else steps it was visible at moments of the call, it
+-- wasn't held at one, and, unless ignored files are wanted, it was not ignored by what was read; where nobody else steps it is all that at the start
+pub record IsListedDir (holds : Holding) (wanted : Wanted) (old new : History) (dir : Option (List ℕ)) : Type 0 where
   pub needed : needs_patterns wanted ≡ true
   pub was : WasVisible new old.last dir
   pub entered : wanted.i ≡ false → WasTaken old new dir
+  pub unheld : WasUnheld holds old new dir
   pub own : IsOurs old new → IsVisibleDir (now old) dir × (wanted.i ≡ false → IsTaken (now old) dir)
+  pub own_unheld : IsOurs old new → IsUnheldThen holds (now old) dir
 
 -- the patterns weren't read, or, where they are needed and a file of them was seen, they were
 abbrev pub IsPatternsRead : Wanted → History → History → List Asked → Type 0

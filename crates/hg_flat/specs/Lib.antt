@@ -12,5 +12,6 @@ pub mod Parent
 pub mod Passed
 pub mod Patterns
 pub mod Recorded
+pub mod Serving
 pub mod Shown
 pub mod Stored

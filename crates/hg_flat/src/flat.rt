@@ -5,6 +5,7 @@ ghost use Rattle.hg_flat.specs.Kept.{AreAscending, HaveOwnPaths};
 
 use crate::entries::Entries;
 use crate::kept::{FlatRow, item_of};
+use crate::span::Span;
 use hg_base::{Id20, OutOfMemory, PathRef};
 use hg_entry::Item;
 use std::alloc::Global;
@@ -120,5 +121,13 @@ impl Entries for Flat {
 
     fn was_entered(&self, _path: &str, _next: &mut usize) -> bool {
         false
+    }
+
+    fn served(&self, _path: &str, _next: &mut usize) -> Option<Span> {
+        None
+    }
+
+    fn node_at(&self, _at: usize) -> Option<PathRef<'_>> {
+        None
     }
 }

@@ -30,6 +30,7 @@ mod others;
 mod parent;
 mod patterns;
 mod reading;
+mod span;
 mod status;
 mod untracked;
 
@@ -47,4 +48,5 @@ pub use listing::visit;
 pub use others::list_others;
 pub use parent::Parent;
 pub use patterns::{needs_patterns, read_patterns, warnings_of};
+pub use span::Span;
 pub use status::plain_status;

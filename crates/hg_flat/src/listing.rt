@@ -1,20 +1,22 @@
 //! Everything that stands in the working copy, directory by directory.
 
 ghost use Rattle.std.specs.Prelude.{◌≡◌, ◌↔◌, false, ℕ, List, IsTrue, IfOk, OnOk, Some, option_map, codes};
-ghost use Rattle.hg_base.specs.PathText.{is_path, joined, parent_of};
+ghost use Rattle.hg_base.specs.PathText.{child_of, is_path, joined, parent_of};
 ghost use Rattle.hg_ignore.specs.Asked.{state_asked};
 ghost use Rattle.hg_ignore.specs.Kept.{DirIgnored};
 ghost use Rattle.hg_tree.specs.History.{History, Passes, now};
 ghost use Rattle.hg_tree.specs.Still.{Untouched, hg_in};
 ghost use Rattle.hg_tree.specs.Moment.{AreFit, AreNames, has_dir, is_among, is_dir, stat_at};
 ghost use Rattle.hg_listing.specs.Cause.{HasListingCause};
-ghost use Rattle.hg_flat.specs.Asked.{AsksFor, AsksNothing, IsDirAmong, IsDirFrom, IsDirIn};
-ghost use Rattle.hg_flat.specs.Listing.{Gives, HoldsFor, IsEntered, IsUnknownAmong, IsUnknownFrom, IsUnknownIn, holds_repository, shows_dir};
+ghost use Rattle.hg_flat.specs.Asked.{AsksFor, AsksNothing, IsAskedDir, IsDirAmong, IsDirFrom, IsDirIn};
+ghost use Rattle.hg_flat.specs.Listing.{Gives, HoldsFor, IsUnknownAmong, IsUnknownFrom, IsUnknownIn, holds_repository, shows_dir};
 ghost use Rattle.hg_flat.specs.Passed.{AreKnown, ListsFormed, ListsSince, WasKind, WasNoDir};
+ghost use Rattle.hg_flat.specs.Serving.{IsDirAt, IsDirWithin, IsSpanOf, IsUnknownAt};
 
 use crate::entries::Entries;
+use crate::span::Span;
 use crate::untracked::{add_untracked, is_ignored, leaves_out};
-use hg_base::{Kind, Path, PathRef, Stat};
+use hg_base::{Kind, Path, PathFault, PathRef, Stat};
 use hg_ignore::Matcher;
 use hg_listing::{Row, Wanted};
 use hg_tree::{Name, Tree, TreeFault};
@@ -98,6 +100,34 @@ fn is_nested<T: Tree>(
     holds_hg(alloc, tree, dir)
 }
 
+// The same of a directory whose names aren't known. Where `.hg` would make no path in it none can be there, and a look at the directory stands for one there.
+fn may_hold_hg<T: Tree>(alloc: Global, tree: &mut T, dir: PathRef<'_>) -> Result<bool, TreeFault>
+    ensures passes { Passes (T.history tree.old) (T.history tree.new) }
+    ensures found { IfOk
+        result
+        (HoldsFor (Untouched (T.history tree.new) (T.history tree.old).last) (now (T.history tree.old)) (Some dir.entry.text.now)) }
+    ensures apart { IsTrue (T.history tree.old).told
+        → IfOk
+        result
+        (λ holds. holds ≡ false → WasNoDir (T.history tree.new) (T.history tree.old).last (hg_in dir.entry.text.now)) }
+    ensures asked { IsTrue (T.history tree.old).told → AsksNothing (T.history tree.old) (T.history tree.new) }
+    ensures cause { HasListingCause (T.faults tree.old) (T.faults tree.new) result }
+{
+    match Path::join(alloc, Some(dir), ".hg") {
+        Ok(path) => {
+            let found = tree.stat(path.as_ref())?;
+            Ok(is_dir_stat(found))
+        },
+        Err(fault) => match fault {
+            PathFault::OutOfMemory => Err(TreeFault::OutOfMemory),
+            _ => {
+                let _ = tree.stat(dir)?;
+                Ok(false)
+            },
+        },
+    }
+}
+
 // The kind of what stands at a path, where anything does. Where a directory was seen before, one is taken to stand there without a look.
 fn kind_at<T: Tree, K: Entries>(
     tree: &mut T,
@@ -128,14 +158,14 @@ fn look<T: Tree, K: Entries>(
     alloc: Global,
     tree: &mut T,
     entries: &K,
-    path: Path,
+    path: PathRef<'_>,
     matcher: &mut Matcher<'_>,
     above: bool,
     wanted: Wanted,
     next: &mut usize,
     rows: &mut Vec<Row>,
 ) -> Result<(), TreeFault>
-    requires { IsTrue above ↔ DirIgnored (state_asked matcher.now) (parent_of path) }
+    requires { IsTrue above ↔ DirIgnored (state_asked matcher.now) (parent_of path.text.now) }
     ensures passes { Passes (T.history tree.old) (T.history tree.new) }
     ensures listed { OnOk
         result
@@ -145,42 +175,173 @@ fn look<T: Tree, K: Entries>(
         (Gives wanted (state_asked matcher.old))
         (T.history tree.old)
         (T.history tree.new)
-        (IsUnknownFrom (K.kept entries.now) (now (T.history tree.old)) path)
+        (IsUnknownFrom (K.kept entries.now) (now (T.history tree.old)) path.entry.text.now)
         rows.old.items
         rows.new.items) }
     ensures asked { IsTrue (T.history tree.old).told
         → (since : History)
         → Passes since (T.history tree.old)
         → AreKnown (K.known entries.now) (T.history tree.old) since.last
-        → AsksFor (IsDirFrom (IsEntered wanted (state_asked matcher.old)) since (T.history tree.new) path) (T.history tree.old) (T.history tree.new) }
+        → AsksFor (IsDirFrom (IsAskedDir (K.known entries.now) wanted (state_asked matcher.old)) since (T.history tree.new) path.entry.text.now) (T.history tree.old) (T.history tree.new) }
     ensures same { state_asked matcher.new ≡ state_asked matcher.old }
     ensures cause { HasListingCause (T.faults tree.old) (T.faults tree.new) result }
 {
-    let Some(kind) = kind_at(tree, entries, path.as_ref(), next)? else {
+    let Some(kind) = kind_at(tree, entries, path, next)? else {
         return Ok(());
     };
     match kind {
-        Kind::File | Kind::Link => add_untracked(entries, path, matcher, above, wanted, next, rows),
+        Kind::File | Kind::Link => {
+            add_untracked(alloc, entries, path, matcher, above, wanted, next, rows)
+        },
         Kind::Dir => {
-            let dir = path.as_ref();
-            let ignored = is_ignored(matcher, above, dir);
+            let ignored = is_ignored(matcher, above, path);
             if leaves_out(ignored, wanted) {
                 return Ok(());
             }
-            visit(
-                alloc,
-                tree,
-                entries,
-                Some(dir),
-                matcher,
-                ignored,
-                wanted,
-                next,
-                rows,
+            go_in(
+                alloc, tree, entries, path, matcher, ignored, wanted, next, rows,
             )
         },
         Kind::Other => Ok(()),
     }
+}
+
+// What stands in a directory below the root: at its nodes or below them, where they serve as its names, and else by a listing.
+#[cycle(listing)]
+fn go_in<T: Tree, K: Entries>(
+    alloc: Global,
+    tree: &mut T,
+    entries: &K,
+    dir: PathRef<'_>,
+    matcher: &mut Matcher<'_>,
+    ignored: bool,
+    wanted: Wanted,
+    next: &mut usize,
+    rows: &mut Vec<Row>,
+) -> Result<(), TreeFault>
+    requires { IsTrue ignored ↔ DirIgnored (state_asked matcher.now) (Some dir.text.now) }
+    ensures passes { Passes (T.history tree.old) (T.history tree.new) }
+    ensures listed { OnOk
+        result
+        (ListsFormed
+        (K.kept entries.now)
+        (K.known entries.now)
+        (Gives wanted (state_asked matcher.old))
+        (T.history tree.old)
+        (T.history tree.new)
+        (IsUnknownIn (K.kept entries.now) (now (T.history tree.old)) (Some dir.entry.text.now))
+        rows.old.items
+        rows.new.items) }
+    ensures asked { IsTrue (T.history tree.old).told
+        → (since : History)
+        → Passes since (T.history tree.old)
+        → AreKnown (K.known entries.now) (T.history tree.old) since.last
+        → AsksFor
+        (IsDirWithin
+        (K.known entries.now)
+        (IsAskedDir (K.known entries.now) wanted (state_asked matcher.old))
+        since
+        (T.history tree.new)
+        dir.entry.text.now)
+        (T.history tree.old)
+        (T.history tree.new) }
+    ensures same { state_asked matcher.new ≡ state_asked matcher.old }
+    ensures cause { HasListingCause (T.faults tree.old) (T.faults tree.new) result }
+{
+    let Some(span) = entries.served(dir.text, next) else {
+        return visit(
+            alloc,
+            tree,
+            entries,
+            Some(dir),
+            matcher,
+            ignored,
+            wanted,
+            next,
+            rows,
+        );
+    };
+    if may_hold_hg(alloc, tree, dir)? {
+        return Ok(());
+    }
+    look_nodes(
+        alloc, tree, entries, dir, span, matcher, ignored, wanted, next, rows,
+    )
+}
+
+// The name of a path in the directory, where it stands right in it.
+fn name_in<'a>(dir: PathRef<'_>, path: PathRef<'a>) -> Option<&'a str>
+    ensures { option_map (λ name. name.now) result ≡ child_of (Some dir.entry.text.now) path.entry.text.now }
+{
+    let Some(parent) = path.parent() else {
+        return None;
+    };
+    if parent.text != dir.text {
+        return None;
+    }
+    Some(path.base())
+}
+
+// What stands at the nodes that serve as the names of a directory, or below them. A node that was passed isn't asked again; at each other it is looked anew.
+#[cycle(listing)]
+fn look_nodes<T: Tree, K: Entries>(
+    alloc: Global,
+    tree: &mut T,
+    entries: &K,
+    dir: PathRef<'_>,
+    span: Span,
+    matcher: &mut Matcher<'_>,
+    ignored: bool,
+    wanted: Wanted,
+    next: &mut usize,
+    rows: &mut Vec<Row>,
+) -> Result<(), TreeFault>
+    requires span { IsSpanOf (K.known entries.now).nodes dir.text.now span }
+    requires above { IsTrue ignored ↔ DirIgnored (state_asked matcher.now) (Some dir.text.now) }
+    ensures passes { Passes (T.history tree.old) (T.history tree.new) }
+    ensures listed { OnOk
+        result
+        (ListsFormed
+        (K.kept entries.now)
+        (K.known entries.now)
+        (Gives wanted (state_asked matcher.old))
+        (T.history tree.old)
+        (T.history tree.new)
+        (IsUnknownAt (K.kept entries.now) (now (T.history tree.old)) dir.entry.text.now (K.known entries.now).nodes)
+        rows.old.items
+        rows.new.items) }
+    ensures asked { IsTrue (T.history tree.old).told
+        → (since : History)
+        → Passes since (T.history tree.old)
+        → AreKnown (K.known entries.now) (T.history tree.old) since.last
+        → AsksFor
+        (IsDirAt
+        (IsAskedDir (K.known entries.now) wanted (state_asked matcher.old))
+        since
+        (T.history tree.new)
+        dir.entry.text.now
+        (K.known entries.now).nodes)
+        (T.history tree.old)
+        (T.history tree.new) }
+    ensures same { state_asked matcher.new ≡ state_asked matcher.old }
+    ensures cause { HasListingCause (T.faults tree.old) (T.faults tree.new) result }
+{
+    for at in span.from..span.upto {
+        let Some(path) = entries.node_at(at) else {
+            return Ok(());
+        };
+        let Some(name) = name_in(dir, path) else {
+            continue;
+        };
+        *next = at;
+        if entries.was_passed(Some(dir), name, next) {
+            continue;
+        }
+        look(
+            alloc, tree, entries, path, matcher, ignored, wanted, next, rows,
+        )?;
+    }
+    Ok(())
 }
 
 // What stands at the names of a directory or below. A path that was passed isn't asked again, nor is a text made of it, and nothing stands below it.
@@ -216,7 +377,7 @@ fn look_each<T: Tree, K: Entries>(
         → Passes since (T.history tree.old)
         → AreKnown (K.known entries.now) (T.history tree.old) since.last
         → AsksFor
-        (IsDirAmong (IsEntered wanted (state_asked matcher.old)) since (T.history tree.new) (option_map (λ d. d.text.now) dir.entry) names.now)
+        (IsDirAmong (IsAskedDir (K.known entries.now) wanted (state_asked matcher.old)) since (T.history tree.new) (option_map (λ d. d.text.now) dir.entry) names.now)
         (T.history tree.old)
         (T.history tree.new) }
     ensures same { state_asked matcher.new ≡ state_asked matcher.old }
@@ -229,7 +390,15 @@ fn look_each<T: Tree, K: Entries>(
         }
         let path = Path::within(alloc, dir, name)?;
         look(
-            alloc, tree, entries, path, matcher, ignored, wanted, next, rows,
+            alloc,
+            tree,
+            entries,
+            path.as_ref(),
+            matcher,
+            ignored,
+            wanted,
+            next,
+            rows,
         )?;
     }
     Ok(())
@@ -272,7 +441,7 @@ pub fn visit<T: Tree, K: Entries>(
         → Passes since (T.history tree.old)
         → AreKnown (K.known entries.now) (T.history tree.old) since.last
         → AsksFor
-        (IsDirIn (IsEntered wanted (state_asked matcher.old)) since (T.history tree.new) (option_map (λ d. d.text.now) dir.entry))
+        (IsDirIn (IsAskedDir (K.known entries.now) wanted (state_asked matcher.old)) since (T.history tree.new) (option_map (λ d. d.text.now) dir.entry))
         (T.history tree.old)
         (T.history tree.new) }
     ensures same { state_asked matcher.new ≡ state_asked matcher.old }

@@ -2,9 +2,9 @@
 
 ghost use Rattle.std.specs.Prelude.{◌≡◌, true, IsTrue, IfErr, IfOk, OnOk, None, is_some, option_map};
 ghost use Rattle.hg_tree.specs.History as trees;
-ghost use Rattle.hg_flat.specs.Asked.{AsksFor, IsDirIn};
+ghost use Rattle.hg_flat.specs.Asked.{AsksFor, IsAskedDir, IsDirIn};
 ghost use Rattle.hg_flat.specs.Course.{pieces_of, warned_of};
-ghost use Rattle.hg_flat.specs.Listing.{Gives, IsEntered, IsUnknownIn};
+ghost use Rattle.hg_flat.specs.Listing.{Gives, IsUnknownIn};
 ghost use Rattle.hg_flat.specs.Others.{IsOfListing, ListsOthers};
 ghost use Rattle.hg_flat.specs.Passed.{AreKnown, ListsSince};
 ghost use Rattle.hg_flat.specs.Patterns.{needs_patterns};
@@ -48,7 +48,7 @@ fn add_others<T: Tree, K: Entries>(
         → AsksFor
         (λ dir. (needs_patterns wanted ≡ true)
         × IsDirIn
-        (IsEntered wanted (pieces_of (option_map (λ i. i.now) ignore.entry)))
+        (IsAskedDir (K.known entries.now) wanted (pieces_of (option_map (λ i. i.now) ignore.entry)))
         since
         (T.history tree.new)
         None
@@ -104,7 +104,7 @@ pub fn list_others<T: Tree, K: Entries>(
         → AreKnown (K.known entries.now) (T.history tree.old) since.last
         → AsksFor
         (λ dir. (needs_patterns wanted ≡ true)
-        × IsDirIn (IsEntered wanted (pieces_of ignore)) since (T.history tree.new) None dir)
+        × IsDirIn (IsAskedDir (K.known entries.now) wanted (pieces_of ignore)) since (T.history tree.new) None dir)
         (T.history tree.old)
         (T.history tree.new) }
     ensures kind { IfErr result IsOfListing }

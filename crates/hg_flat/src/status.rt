@@ -5,7 +5,7 @@ ghost use Rattle.hg_shelf.specs.History as shelves;
 ghost use Rattle.hg_shelf.specs.Images as images;
 ghost use Rattle.hg_shelf.specs.Polite.{StaysPlain};
 ghost use Rattle.hg_tree.specs.History as trees;
-ghost use Rattle.hg_flat.specs.Asked.{AsksAll, AsksBehind, AsksReads, IsListedDir, pattern_reads};
+ghost use Rattle.hg_flat.specs.Asked.{AsksAll, AsksBehind, AsksReads, IsListedDir, nothing_holds, pattern_reads};
 ghost use Rattle.hg_listing.specs.Cause.{HasShelfCause, HasStatusCause};
 ghost use Rattle.hg_flat.specs.Course.{MetParent};
 ghost use Rattle.hg_flat.specs.First.{MetFirst};
@@ -234,7 +234,7 @@ pub fn plain_status<T: Tree, S: Shelf, G: Regexps>(
         → AsksAll
         wanted
         (asked_by wanted (flat_in flat.now))
-        (IsListedDir wanted (T.history tree.old) (T.history tree.new))
+        (IsListedDir nothing_holds wanted (T.history tree.old) (T.history tree.new))
         (T.history tree.old)
         (T.history tree.new) }
     // Where nobody else steps, the patterns are read exactly where they are needed and their file is there.
@@ -244,7 +244,7 @@ pub fn plain_status<T: Tree, S: Shelf, G: Regexps>(
         (AsksBehind
         (pattern_reads wanted (trees.now (T.history tree.old)))
         (asked_by wanted (flat_in flat.now))
-        (IsListedDir wanted (T.history tree.old) (T.history tree.new))
+        (IsListedDir nothing_holds wanted (T.history tree.old) (T.history tree.new))
         (T.history tree.old)
         (T.history tree.new)) }
     // The bytes of each path are read in one comparison at most, and only where neither kind, executable bit nor size decide its letter.

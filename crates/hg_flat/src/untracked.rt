@@ -15,6 +15,7 @@ use hg_compare::Letter;
 use hg_ignore::Matcher;
 use hg_listing::{Row, Wanted};
 use hg_tree::TreeFault;
+use std::alloc::Global;
 
 /// Whether a path is ignored: all is in a directory that is, and elsewhere what a line matches.
 pub(crate) fn is_ignored(matcher: &mut Matcher<'_>, above: bool, path: PathRef<'_>) -> bool
@@ -50,22 +51,23 @@ fn untracked_letter(matcher: &mut Matcher<'_>, above: bool, path: PathRef<'_>) -
 /// Puts the row of a path, where its letter is wanted, unless it has an entry, for which the search begins at `next`. Whether the directory above
 /// the path is ignored is known.
 pub(crate) fn add_untracked<K: Entries>(
+    alloc: Global,
     entries: &K,
-    path: Path,
+    path: PathRef<'_>,
     matcher: &mut Matcher<'_>,
     above: bool,
     wanted: Wanted,
     next: &mut usize,
     rows: &mut Vec<Row>,
 ) -> Result<(), TreeFault>
-    requires { IsTrue above ↔ DirIgnored (state_asked matcher.now) (parent_of path) }
+    requires { IsTrue above ↔ DirIgnored (state_asked matcher.now) (parent_of path.text.now) }
     ensures row { OnOk
         result
         (PutsUntracked
-        (K.kept entries.now path)
+        (K.kept entries.now path.entry.text.now)
         wanted
         (state_asked matcher.old)
-        path
+        path.entry.text.now
         rows.old.items
         rows.new.items) }
     ensures same { state_asked matcher.new ≡ state_asked matcher.old }
@@ -74,10 +76,11 @@ pub(crate) fn add_untracked<K: Entries>(
     if entries.has(path.as_str(), next) {
         return Ok(());
     }
-    let letter = untracked_letter(matcher, above, path.as_ref());
+    let letter = untracked_letter(matcher, above, path);
     if !wants(wanted, letter) {
         return Ok(());
     }
+    let path = Path::of(alloc, path)?;
     rows.push(Row {
         letter,
         path,

@@ -3,7 +3,7 @@ use Rattle.std.specs.Prelude.{ℕ, ◌≡◌, ◌≤◌, ◌⊎◌, ◌∷◌, [
 use Rattle.hg_base.specs.Fault.{Rose}
 use Rattle.hg_base.specs.declared.id.Id20.{Id20}
 use Rattle.hg_entry.specs.Table.{Table, flat_of}
-use Rattle.hg_flat.specs.Asked.{AsksAll, AsksBehind, AsksNothing, IsListedDir, pattern_reads}
+use Rattle.hg_flat.specs.Asked.{AsksAll, AsksBehind, AsksNothing, IsListedDir, nothing_holds, pattern_reads}
 use Rattle.hg_listing.specs.Full.{IsFull, IsFullFor}
 use Rattle.hg_flat.specs.First.{MetFirst}
 use Rattle.hg_flat.specs.Met.{Met, Status}
@@ -110,7 +110,7 @@ pub record IsOwn (looked : Looked) : Type 0 where
 -- are compared were read, and where `?` or I is wanted directories were listed, each once at most; where nobody else steps, visible ones alone,
 -- and without I none that is ignored
 abbrev pub AsksOver : Table → Wanted → Watched tree.History → Type 0
-AsksOver table wanted copy = AsksAll wanted (asking wanted table) (IsListedDir wanted copy.old copy.new) copy.old copy.new
+AsksOver table wanted copy = AsksAll wanted (asking wanted table) (IsListedDir nothing_holds wanted copy.old copy.new) copy.old copy.new
 
 -- it was asked nothing, or by a listing over the table that was read
 abbrev pub AsksLittle : Looked → Wanted → Option Table → Type 0
@@ -121,7 +121,7 @@ AsksLittle looked wanted table =
 abbrev pub AsksOwn : Looked → Wanted → Table → Type 0
 AsksOwn looked wanted table =
     tree.IsOurs looked.tree.old looked.tree.new
-    → AsksBehind (pattern_reads wanted (tree.now looked.tree.old)) (asking wanted table) (IsListedDir wanted looked.tree.old looked.tree.new) looked.tree.old looked.tree.new
+    → AsksBehind (pattern_reads wanted (tree.now looked.tree.old)) (asking wanted table) (IsListedDir nothing_holds wanted looked.tree.old looked.tree.new) looked.tree.old looked.tree.new
 
 -- what a listing over a table asks below `.hg`, from one history to another: the manifest once at most, where a path was compared, and contents that its
 -- rows of such paths name

@@ -1,5 +1,5 @@
 -- The nodes of a record, and the rows of those with an entry: each is what the record says of its path.
-use Rattle.std.proofs.Common.{ℕ, zero, suc, ◌≡◌, ◌<◌, ◌⊎◌, ◌||◌, ◌&&◌, Bool, true, false, List, [], ◌∷◌, ◌++◌, map, length, get_or, Option, Some, None, option_map, Ok, Err, is_some, refl, sym, ap, ◌∙◌, subst, inl, inr, arith, true≢false}
+use Rattle.std.proofs.Common.{ℕ, zero, suc, ◌≡◌, ◌<◌, ◌≤◌, ◌⊎◌, ◌||◌, ◌&&◌, Bool, true, false, List, [], ◌∷◌, ◌++◌, map, length, get_or, Option, Some, None, option_map, Ok, Err, is_some, refl, sym, ap, ◌∙◌, subst, inl, inr, arith, true≢false}
 use native.Mathlib.Numerals.{unary_clauses}
 use Rattle.std.specs.List.{AllByRecursion, Contains, IsDistinct, list_any}
 use Rattle.std.specs.List.Sorted.{IsBinarySearchResult, IsSortedBy, IsStrictlySortedBy}
@@ -9,6 +9,7 @@ use Rattle.std.specs.Cmp.{tied_itself}
 use Rattle.std.specs.Cmp.Lexicographic.{nat_list_cmp_total, slice_cmp}
 use Rattle.std.specs.Str.{bytes_eq}
 use Rattle.std.proofs.lemmas.Bool.{and_from, cases_Bool, cases_lt}
+use Rattle.std.proofs.lemmas.List.{get_or-map, length-map}
 use Rattle.std.proofs.lemmas.List.Elements.{All-contains, All-from_recursion, Contains-append_cases, Contains-append_left, Contains-append_right, Contains-push, Contains-push_cases}
 use Rattle.std.proofs.lemmas.List.Sorted.{searchable_from_sorted}
 use Rattle.std.proofs.lemmas.Map.Lookups.{exact_bytes}
@@ -18,6 +19,7 @@ use Rattle.hg_entry.specs.Entry.{EntryData, view}
 use Rattle.hg_entry.specs.Table.{Table, flat_of}
 use Rattle.hg_entry.specs.declared.entry.Entry.{Entry}
 use Rattle.hg_flat.specs.Kept.{HaveOwnPaths, flat_from, row_at, shown_row}
+use Rattle.hg_flat.specs.Serving.{IsNodeAt}
 use Rattle.hg_flat.specs.Recorded.{Recorded, Records, recorded_at}
 use Rattle.hg_flat.specs.declared.kept.FlatRow.{FlatRow}
 use Rattle.hg_flat.proofs.Holding.{found_at, found_has}
@@ -318,3 +320,14 @@ marked_node Is test [] marks are is = absurd (true≢false (sym is))
 marked_node Is test (first ∷ rest) [] are is = absurd (true≢false (sym is))
 marked_node Is test (first ∷ rest) (m ∷ marks) are is =
     elim (or_cases (test first m) (any_marked test rest marks) is) [ inl here ↦ (first, m, are.0, here) | inr later ↦ marked_node Is test rest marks are.1 later ]
+
+-- ---- nodes by their places
+
+pub node_here : (children : List Line) (at : ℕ) (child : Line) → at < length children → child ≡ get_or children at child → IsNodeAt (paths_of children) at (path_of child)
+node_here children at child below is = let long : length (paths_of children) ≡ length children = length-map children path_of in record {
+  within = omega (arith, below, long);
+  is = get_or-map path_of children at child (path_of child) below ∙ ap path_of (sym is);
+}
+
+pub node_end : (children : List Line) (at : ℕ) → length children ≤ at → length (paths_of children) ≤ at
+node_end children at past = let long : length (paths_of children) ≡ length children = length-map children path_of in omega (arith, past, long)

@@ -9,7 +9,9 @@ use Rattle.hg_flat.specs.Course.{IsKeptState, pieces_of}
 use Rattle.hg_flat.specs.Listing.{wants_bytes}
 use Rattle.hg_flat.specs.Others.{ListsOthers}
 use Rattle.hg_flat.specs.Parent.{IsAsked, IsLeft, IsServed, asked_by}
-use Rattle.hg_flat.specs.Passed.{AreKnown, Known}
+use Rattle.hg_flat.specs.Listing.{Gives}
+use Rattle.hg_flat.specs.Passed.{AreKnown, AreServed, Known}
+use Rattle.hg_compare.specs.declared.letter.Letter.{Letter}
 use Rattle.hg_flat.specs.Patterns.{ignored_at}
 use Rattle.hg_flat.proofs.Fullness.{Narrows, full_of}
 use Rattle.hg_flat.specs.Judged.{IsLeftAsked}
@@ -56,6 +58,10 @@ known_earlier known h start begun within are = record {
   dirs = λ told path is. let was = are.dirs told path is in record { moment = was.moment; begun = omega (arith, within, was.begun); past = was.past; is = was.is };
 }
 
+-- no nodes serve as names
+served_nowhere : (children : List Line) (marks : List Mark) (L : List ℕ → Letter → Type 0) (h : trees.History) (start : ℕ) → AreServed (known_of children marks) L h start
+served_nowhere children marks L h start told dir is = absurd (cc (is))
+
 module _ (wanted : Wanted) (t : Table) (children : List Line) (marks : List Mark) (rows : List Row) (old mid later new : trees.History) (first : trees.Passes old mid) (second : trees.Passes mid later) (third : trees.Passes later new)
     (start files : shelves.History) where
   whole : trees.Passes old new
@@ -70,7 +76,7 @@ module _ (wanted : Wanted) (t : Table) (children : List Line) (marks : List Mark
         (λ (f : Flat). IsFullFor (IsLeft store wanted f (asked_unvouched wanted t) (first_id t) new old.last files start.last) f (trees.now old) (rows_in t store) (ignored_at (trees.now old)) wanted d)
         told.flat
         (whole_listing (asked_unvouched wanted t) (unvouched_alike wanted t) (AreRight (rows_in t store) t mid later) t.p1 t.p2 (tracked_rows children) told.own wanted (first_id t) old mid later new first second third files start.last
-        store rows d (told.added store) ignore kept (known_of children marks) told.known others
+        store rows d (told.added store) ignore kept (known_of children marks) told.known (served_nowhere children marks (Gives wanted (pieces_of ignore)) later mid.last) others
         (right_in_second (rows_in t store) t old mid later first.past (right_in_first (rows_in t store) t old later new third.past right)))
 
     -- all that a comparison asked for was there, whatever the times
@@ -78,7 +84,7 @@ module _ (wanted : Wanted) (t : Table) (children : List Line) (marks : List Mark
         → IsServed store (first_id t) (trees.now old) path
     served store path left asked =
         whole_served (asked_unvouched wanted t) (unvouched_alike wanted t) (AreRight (rows_in t store) t mid later) t.p1 t.p2 (tracked_rows children) told.own wanted (first_id t) old mid later new first second third files start.last
-        store rows d (told.added store) ignore kept (known_of children marks) told.known others
+        store rows (told.added store)
         (subst (Narrows (asked_unvouched wanted t) wanted) (sym told.flat) (unvouched_narrows wanted t)) path
         (subst (λ (f : Flat). IsLeft store wanted f (asked_unvouched wanted t) (first_id t) new old.last files start.last path) (sym told.flat) left) asked
 

@@ -36,9 +36,9 @@ was_passed children marks path = any_marked (λ child mark. bytes_eq (path_of ch
 abbrev pub was_entered : List Line → List Mark → List ℕ → Bool
 was_entered children marks dir = any_marked (λ child mark. is_below dir (path_of child) && stands mark) children marks
 
--- what the listing may know by the looks
+-- what the listing may know by the looks; no nodes serve as names
 abbrev pub known_of : List Line → List Mark → Known
-known_of children marks = record { none = was_passed children marks; dir = was_entered children marks }
+known_of children marks = record { none = was_passed children marks; dir = was_entered children marks; served = λ path. false; nodes = paths_of children }
 
 -- a child of a path stands at a place
 pub record IsPlaceOf (children : List Line) (path : List ℕ) (at : ℕ) : Type 0 where

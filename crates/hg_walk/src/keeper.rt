@@ -10,7 +10,7 @@ ghost use Rattle.hg_walk.specs.Passing.{AreInOrder};
 
 use crate::mark::Mark;
 use hg_base::{PathRef, is_below};
-use hg_flat::Entries;
+use hg_flat::{Entries, Span};
 use hg_mixed::Line;
 use std::cmp::Ordering;
 
@@ -230,5 +230,16 @@ impl Entries for Keeper<'_> {
             }
         }
         false
+    }
+
+    fn served(&self, _path: &str, _next: &mut usize) -> Option<Span> {
+        None
+    }
+
+    fn node_at(&self, at: usize) -> Option<PathRef<'_>> {
+        if at >= self.children.len() {
+            return None;
+        }
+        Some(self.children[at].path)
     }
 }

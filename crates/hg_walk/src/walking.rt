@@ -3,7 +3,7 @@
 ghost use Rattle.std.specs.Prelude.{◌≡◌, false, true, ℕ, List, IsTrue, IfErr, IfOk, OnOk};
 ghost use Rattle.hg_base.specs.Fault.{HasCause};
 ghost use Rattle.hg_entry.specs.Table.{flat_of};
-ghost use Rattle.hg_flat.specs.Asked.{AsksAll, AsksBehind, AsksNothing, IsListedDir, pattern_reads};
+ghost use Rattle.hg_flat.specs.Asked.{AsksAll, AsksBehind, AsksNothing, IsListedDir, nothing_holds, pattern_reads};
 ghost use Rattle.hg_flat.specs.First.{MetFirst};
 ghost use Rattle.hg_flat.specs.Listing.{wants_bytes};
 ghost use Rattle.hg_flat.specs.Met.{Met};
@@ -111,7 +111,7 @@ pub fn walk<T: Tree, S: Shelf, G: Regexps>(
         → AsksAll
         wanted
         (asked_unvouched wanted (table mixed.now))
-        (IsListedDir wanted (T.history tree.old) (T.history tree.new))
+        (IsListedDir nothing_holds wanted (T.history tree.old) (T.history tree.new))
         (T.history tree.old)
         (T.history tree.new) }
     ensures asked_own { trees.IsOurs (T.history tree.old) (T.history tree.new)
@@ -120,7 +120,7 @@ pub fn walk<T: Tree, S: Shelf, G: Regexps>(
         (AsksBehind
         (pattern_reads wanted (trees.now (T.history tree.old)))
         (asked_unvouched wanted (table mixed.now))
-        (IsListedDir wanted (T.history tree.old) (T.history tree.new))
+        (IsListedDir nothing_holds wanted (T.history tree.old) (T.history tree.new))
         (T.history tree.old)
         (T.history tree.new)) }
     // The bytes of each path are read in one comparison at most, and only where neither kind, executable bit nor size decide its letter.

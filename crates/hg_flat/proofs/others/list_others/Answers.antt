@@ -4,9 +4,9 @@ use Rattle.std.proofs.lemmas.List.Filters.{dedup_is}
 use Rattle.hg_ignore.specs.State.{Piece}
 use Rattle.hg_listing.specs.Order.{whole_order}
 use Rattle.hg_tree.specs.History as trees
-use Rattle.hg_flat.specs.Asked.{AsksFor, IsDirIn}
+use Rattle.hg_flat.specs.Asked.{AsksFor, IsAskedDir, IsDirIn}
 use Rattle.hg_flat.specs.Course.{pieces_of}
-use Rattle.hg_flat.specs.Listing.{Gives, IsEntered, IsUnknownIn}
+use Rattle.hg_flat.specs.Listing.{Gives, IsUnknownIn}
 use Rattle.hg_flat.specs.Passed.{ListsSince}
 use Rattle.hg_flat.specs.Patterns.{needs_patterns}
 use Rattle.hg_flat.proofs.others.list_others.Goals as goal
@@ -33,19 +33,19 @@ pub returns-in_err-add_others-clause-asked : goal.returns-in_err-add_others-clau
 returns-in_err-add_others-clause-asked g c = λ told since past are.
     let old = g.T.Tree.history c.args.tree.now in
     let new = g.T.Tree.history c.add_others.new.tree in
-    subst (λ (o : Option (List Piece)). AsksFor (λ dir. (needs_patterns c.args.wanted ≡ true) × IsDirIn (IsEntered c.args.wanted (pieces_of o)) since new None dir) old new)
+    subst (λ (o : Option (List Piece)). AsksFor (λ dir. (needs_patterns c.args.wanted ≡ true) × IsDirIn (IsAskedDir (g.K.Entries.known c.args.entries.now) c.args.wanted (pieces_of o)) since new None dir) old new)
     c.as_ref.ensures.value (c.add_others.ensures.asked told since past are)
 
 pub returns-in_err-sort-clause-asked : goal.returns-in_err-sort-clause-asked
 returns-in_err-sort-clause-asked g c = λ told since past are.
     let old = g.T.Tree.history c.args.tree.now in
     let new = g.T.Tree.history c.add_others.new.tree in
-    subst (λ (o : Option (List Piece)). AsksFor (λ dir. (needs_patterns c.args.wanted ≡ true) × IsDirIn (IsEntered c.args.wanted (pieces_of o)) since new None dir) old new)
+    subst (λ (o : Option (List Piece)). AsksFor (λ dir. (needs_patterns c.args.wanted ≡ true) × IsDirIn (IsAskedDir (g.K.Entries.known c.args.entries.now) c.args.wanted (pieces_of o)) since new None dir) old new)
     c.as_ref.ensures.value (c.add_others.ensures.asked told since past are)
 
 pub returns-clause-asked : goal.returns-clause-asked
 returns-clause-asked g c = λ told since past are.
     let old = g.T.Tree.history c.args.tree.now in
     let new = g.T.Tree.history c.add_others.new.tree in
-    subst (λ (o : Option (List Piece)). AsksFor (λ dir. (needs_patterns c.args.wanted ≡ true) × IsDirIn (IsEntered c.args.wanted (pieces_of o)) since new None dir) old new)
+    subst (λ (o : Option (List Piece)). AsksFor (λ dir. (needs_patterns c.args.wanted ≡ true) × IsDirIn (IsAskedDir (g.K.Entries.known c.args.entries.now) c.args.wanted (pieces_of o)) since new None dir) old new)
     c.as_ref.ensures.value (c.add_others.ensures.asked told since past are)

@@ -4,7 +4,9 @@ use Rattle.hg_shelf.proofs.Histories as shelf
 use Rattle.hg_tree.specs.History as trees
 use Rattle.hg_tree.proofs.Histories.{extends_same}
 use Rattle.hg_tree.proofs.Spans.{ours_first, passes_same, passes_trans}
+use Rattle.hg_flat.specs.Asked.{nothing_holds}
 use Rattle.hg_flat.specs.Course.{pieces_of}
+use Rattle.hg_flat.specs.Listing.{Gives}
 use Rattle.hg_flat.specs.Parent.{asked_by, parent_rows}
 use Rattle.hg_flat.specs.Passed.{nothing_known}
 use Rattle.hg_flat.specs.Patterns.{Warns, ignored_at}
@@ -12,14 +14,14 @@ use Rattle.hg_flat.specs.Shown.{flat_in}
 use Rattle.hg_flat.specs.declared.listed.Listed.{Listed}
 use Rattle.hg_flat.proofs.Asking.{never_each}
 use Rattle.hg_flat.proofs.Asks.{asks_none}
-use Rattle.hg_flat.proofs.Calls.{all_asks, asks_first, asks_second, own_asks}
+use Rattle.hg_flat.proofs.Calls.{all_asks, asks_first, asks_second, own_asks, unheld_none}
 use Rattle.hg_flat.proofs.Fullness.{full_of}
 use Rattle.hg_flat.proofs.Judging.{marks_alike}
 use Rattle.hg_flat.proofs.Leaving.{left_all}
 use Rattle.hg_flat.proofs.Needing.{asks_needed, reads_no}
 use Rattle.hg_flat.proofs.Refusing.{had, is_kept, state_given, state_still, warns}
 use Rattle.hg_flat.proofs.Spanning.{counts_listing, counts_still, first_listing, first_patterns, first_whole, if_ok_on, met_listing, met_patterns, met_whole, not_parent, of_listing_none}
-use Rattle.hg_flat.proofs.Steps.{known_none}
+use Rattle.hg_flat.proofs.Steps.{known_none, served_none}
 use Rattle.hg_flat.proofs.Storing.{store_longer, store_none}
 use Rattle.hg_flat.proofs.Whole.{Left, whole_listing, whole_served}
 use Rattle.hg_flat.proofs.status.plain_status.Goals as goal
@@ -38,7 +40,7 @@ returns-clause-still g c = λ store.
     (λ listed others.
     whole_listing asks (marks_alike c.args.wanted (flat_in flat)) (Unit {0}) flat.p1.0 flat.p2.0 flat.rows.items flat.own c.args.wanted c.args.p1.now old mid later new c.read_patterns.ensures.passes c.add_each.ensures.passes c.list_others.ensures.passes files start.last
     store c.add_each.new.rows.items listed.rows ((rw c.new-rows.ensures.items at c.in_ok-add_each.ensures.added) store) c.in_ok-ignore.ignore c.in_ok-ignore.ensures.kept
-    nothing_known (known_none later mid.last c.add_each.ensures.passes.past.later) others tt)
+    nothing_known (known_none later mid.last c.add_each.ensures.passes.past.later) (served_none (Gives c.args.wanted (pieces_of c.in_ok-ignore.ignore)) later mid.last) others tt)
     c.list_others.ensures.listed
 
 pub returns-clause-full : goal.returns-clause-full
@@ -72,8 +74,7 @@ returns-clause-served g c =
     if_ok_on c.list_others.result _ _
     (λ listed others store.
     whole_served asks (marks_alike c.args.wanted (flat_in flat)) (Unit {0}) flat.p1.0 flat.p2.0 flat.rows.items flat.own c.args.wanted c.args.p1.now old mid later new c.read_patterns.ensures.passes c.add_each.ensures.passes c.list_others.ensures.passes files start.last
-    store c.add_each.new.rows.items listed.rows ((rw c.new-rows.ensures.items at c.in_ok-add_each.ensures.added) store) c.in_ok-ignore.ignore c.in_ok-ignore.ensures.kept
-    nothing_known (known_none later mid.last c.add_each.ensures.passes.past.later) others (λ m path asked. asked))
+    store c.add_each.new.rows.items ((rw c.new-rows.ensures.items at c.in_ok-add_each.ensures.added) store) (λ m path asked. asked))
     c.list_others.ensures.listed
 
 -- ---- the patterns
@@ -208,11 +209,11 @@ returns-in_err-add_each-clause-oversize g c =
 
 pub returns-in_err-ignore-clause-asked : goal.returns-in_err-ignore-clause-asked
 returns-in_err-ignore-clause-asked g c = λ told.
-    asks_first c.args.wanted (asked_by c.args.wanted (flat_in c.args.flat.now)) (g.T.Tree.history c.args.tree.now) (g.T.Tree.history c.read_patterns.new.tree) c.read_patterns.ensures.passes.past (c.read_patterns.ensures.asked told)
+    asks_first nothing_holds c.args.wanted (asked_by c.args.wanted (flat_in c.args.flat.now)) (g.T.Tree.history c.args.tree.now) (g.T.Tree.history c.read_patterns.new.tree) c.read_patterns.ensures.passes.past (c.read_patterns.ensures.asked told)
 
 pub returns-in_err-add_each-clause-asked : goal.returns-in_err-add_each-clause-asked
 returns-in_err-add_each-clause-asked g c = λ told.
-    asks_second c.args.wanted (asked_by c.args.wanted (flat_in c.args.flat.now)) (g.T.Tree.history c.args.tree.now) (g.T.Tree.history c.read_patterns.new.tree)
+    asks_second nothing_holds c.args.wanted (asked_by c.args.wanted (flat_in c.args.flat.now)) (g.T.Tree.history c.args.tree.now) (g.T.Tree.history c.read_patterns.new.tree)
     (g.T.Tree.history c.add_each.new.tree) c.read_patterns.ensures.passes.past c.add_each.ensures.passes.past (c.read_patterns.ensures.asked told) (c.add_each.ensures.asked (c.read_patterns.ensures.passes.past.told ∙ told))
 
 pub returns-clause-asked : goal.returns-clause-asked
@@ -222,9 +223,12 @@ returns-clause-asked g c = λ told.
     let later = g.T.Tree.history c.add_each.new.tree in
     let new = g.T.Tree.history c.list_others.new.tree in
     let past = passes_trans old mid later c.read_patterns.ensures.passes c.add_each.ensures.passes in
-    all_asks c.args.wanted (asked_by c.args.wanted (flat_in c.args.flat.now)) (pieces_of c.in_ok-ignore.ignore) old mid later new c.read_patterns.ensures.passes c.add_each.ensures.passes c.list_others.ensures.passes
+    all_asks nothing_holds nothing_known c.args.wanted (asked_by c.args.wanted (flat_in c.args.flat.now)) (pieces_of c.in_ok-ignore.ignore) old mid later new c.read_patterns.ensures.passes c.add_each.ensures.passes c.list_others.ensures.passes
     (state_still c.args.wanted old mid c.in_ok-ignore.ignore c.in_ok-ignore.ensures.kept)
     (state_given old mid new c.read_patterns.ensures.passes (passes_trans mid later new c.add_each.ensures.passes c.list_others.ensures.passes).past c.args.wanted c.in_ok-ignore.ignore c.in_ok-ignore.ensures.kept)
+    (λ needed.
+    unheld_none nothing_known (pieces_of c.in_ok-ignore.ignore) old new (passes_trans old mid new c.read_patterns.ensures.passes (passes_trans mid later new c.add_each.ensures.passes c.list_others.ensures.passes)).past
+    (state_given old mid new c.read_patterns.ensures.passes (passes_trans mid later new c.add_each.ensures.passes c.list_others.ensures.passes).past c.args.wanted c.in_ok-ignore.ignore c.in_ok-ignore.ensures.kept needed))
     (c.read_patterns.ensures.asked told)
     (c.add_each.ensures.asked (c.read_patterns.ensures.passes.past.told ∙ told))
     (c.list_others.ensures.asked (past.past.told ∙ told) old past (known_none later old.last past.past.later))
@@ -238,9 +242,12 @@ returns-clause-asked_own g c = λ ours.
     let past = passes_trans old mid later c.read_patterns.ensures.passes c.add_each.ensures.passes in
     if_ok_on c.list_others.result _ _
     (λ listed others.
-    own_asks c.args.wanted (asked_by c.args.wanted (flat_in c.args.flat.now)) (pieces_of c.in_ok-ignore.ignore) old mid later new c.read_patterns.ensures.passes c.add_each.ensures.passes c.list_others.ensures.passes
+    own_asks nothing_holds nothing_known c.args.wanted (asked_by c.args.wanted (flat_in c.args.flat.now)) (pieces_of c.in_ok-ignore.ignore) old mid later new c.read_patterns.ensures.passes c.add_each.ensures.passes c.list_others.ensures.passes
     (state_still c.args.wanted old mid c.in_ok-ignore.ignore c.in_ok-ignore.ensures.kept)
     (state_given old mid new c.read_patterns.ensures.passes (passes_trans mid later new c.add_each.ensures.passes c.list_others.ensures.passes).past c.args.wanted c.in_ok-ignore.ignore c.in_ok-ignore.ensures.kept)
+    (λ needed.
+    unheld_none nothing_known (pieces_of c.in_ok-ignore.ignore) old new (passes_trans old mid new c.read_patterns.ensures.passes (passes_trans mid later new c.add_each.ensures.passes c.list_others.ensures.passes)).past
+    (state_given old mid new c.read_patterns.ensures.passes (passes_trans mid later new c.add_each.ensures.passes c.list_others.ensures.passes).past c.args.wanted c.in_ok-ignore.ignore c.in_ok-ignore.ensures.kept needed))
     (c.in_ok-ignore.ensures.asked_own (ours_first old mid new (passes_trans mid later new c.add_each.ensures.passes c.list_others.ensures.passes).past ours))
     (c.add_each.ensures.asked (c.read_patterns.ensures.passes.past.told ∙ ours.told))
     (c.list_others.ensures.asked (past.past.told ∙ ours.told) old past (known_none later old.last past.past.later)))

@@ -2,11 +2,12 @@ use Rattle.std.proofs.Common.{[], append-nil, Err, inl, refl, sym, subst, ◌∙
 use Rattle.std.proofs.lemmas.Result.{err_from_is_err_and}
 use Rattle.hg_tree.proofs.Histories.{extends_same}
 use Rattle.hg_tree.proofs.Spans.{ours_first, ours_second, passes_same, passes_trans}
+use Rattle.hg_flat.specs.Asked.{nothing_holds}
 use Rattle.hg_flat.specs.Course.{pieces_of}
 use Rattle.hg_flat.specs.Patterns.{Warns}
 use Rattle.hg_flat.proofs.Asking.{never_each}
 use Rattle.hg_flat.proofs.Asks.{asks_none}
-use Rattle.hg_flat.proofs.Calls.{all_asks, asks_first, asks_second, own_asks}
+use Rattle.hg_flat.proofs.Calls.{all_asks, asks_first, asks_second, own_asks, unheld_none}
 use Rattle.hg_flat.proofs.Needing.{asks_needed, reads_no}
 use Rattle.hg_flat.proofs.Refusing.{had, is_kept, state_given, state_still, warns}
 use Rattle.hg_flat.proofs.Spanning.{counts_listing, counts_still, first_listing, first_patterns, first_whole, met_listing, met_patterns, met_whole, not_parent, of_listing_none}
@@ -234,7 +235,7 @@ returns-in_err-boundary-clause-asked g c =
     let old = g.T.Tree.history c.args.tree.now in
     let at = g.T.Tree.history c.boundary_of.new.tree in
     let asks = asked_unvouched c.args.wanted (table c.args.mixed.now) in
-    λ told. asks_first c.args.wanted asks old at c.boundary_of.ensures.passes.past ([], inl refl, c.boundary_of.ensures.asked told ∙ sym (append-nil old.asked))
+    λ told. asks_first nothing_holds c.args.wanted asks old at c.boundary_of.ensures.passes.past ([], inl refl, c.boundary_of.ensures.asked told ∙ sym (append-nil old.asked))
 
 pub returns-in_err-ignore-clause-asked : goal.returns-in_err-ignore-clause-asked
 returns-in_err-ignore-clause-asked g c =
@@ -242,7 +243,7 @@ returns-in_err-ignore-clause-asked g c =
     let at = g.T.Tree.history c.boundary_of.new.tree in
     let mid = g.T.Tree.history c.read_patterns.new.tree in
     let asks = asked_unvouched c.args.wanted (table c.args.mixed.now) in
-    λ told. asks_first c.args.wanted asks old mid (passes_trans old at mid c.boundary_of.ensures.passes c.read_patterns.ensures.passes).past (asks_behind old at mid c.boundary_of.ensures.passes c.read_patterns.ensures.passes c.args.wanted (c.boundary_of.ensures.asked told) (c.read_patterns.ensures.asked (c.boundary_of.ensures.passes.past.told ∙ told)))
+    λ told. asks_first nothing_holds c.args.wanted asks old mid (passes_trans old at mid c.boundary_of.ensures.passes c.read_patterns.ensures.passes).past (asks_behind old at mid c.boundary_of.ensures.passes c.read_patterns.ensures.passes c.args.wanted (c.boundary_of.ensures.asked told) (c.read_patterns.ensures.asked (c.boundary_of.ensures.passes.past.told ∙ told)))
 
 pub returns-in_err-tracked-clause-asked : goal.returns-in_err-tracked-clause-asked
 returns-in_err-tracked-clause-asked g c =
@@ -251,7 +252,7 @@ returns-in_err-tracked-clause-asked g c =
     let mid = g.T.Tree.history c.read_patterns.new.tree in
     let later = g.T.Tree.history c.tell_all.new.tree in
     let asks = asked_unvouched c.args.wanted (table c.args.mixed.now) in
-    λ told. asks_second c.args.wanted asks old mid later (passes_trans old at mid c.boundary_of.ensures.passes c.read_patterns.ensures.passes).past c.tell_all.ensures.passes.past (asks_behind old at mid c.boundary_of.ensures.passes c.read_patterns.ensures.passes c.args.wanted (c.boundary_of.ensures.asked told) (c.read_patterns.ensures.asked (c.boundary_of.ensures.passes.past.told ∙ told))) (c.tell_all.ensures.asked ((c.read_patterns.ensures.passes.past.told ∙ c.boundary_of.ensures.passes.past.told) ∙ told))
+    λ told. asks_second nothing_holds c.args.wanted asks old mid later (passes_trans old at mid c.boundary_of.ensures.passes c.read_patterns.ensures.passes).past c.tell_all.ensures.passes.past (asks_behind old at mid c.boundary_of.ensures.passes c.read_patterns.ensures.passes c.args.wanted (c.boundary_of.ensures.asked told) (c.read_patterns.ensures.asked (c.boundary_of.ensures.passes.past.told ∙ told))) (c.tell_all.ensures.asked ((c.read_patterns.ensures.passes.past.told ∙ c.boundary_of.ensures.passes.past.told) ∙ told))
 
 pub returns-in_err-listed-clause-asked : goal.returns-in_err-listed-clause-asked
 returns-in_err-listed-clause-asked g c =
@@ -262,8 +263,11 @@ returns-in_err-listed-clause-asked g c =
     let new = g.T.Tree.history c.list_others.new.tree in
     let asks = asked_unvouched c.args.wanted (table c.args.mixed.now) in
     λ told.
-    all_asks c.args.wanted asks (pieces_of c.in_ok-ignore.ignore) old mid later new (passes_trans old at mid c.boundary_of.ensures.passes c.read_patterns.ensures.passes) c.tell_all.ensures.passes c.list_others.ensures.passes (state_still c.args.wanted old mid c.in_ok-ignore.ignore (kept_behind old at mid c.boundary_of.ensures.passes c.read_patterns.ensures.passes c.args.wanted c.in_ok-ignore.ignore c.in_ok-ignore.ensures.kept))
+    all_asks nothing_holds (known_of c.in_ok-tracked.tracked.keeper.children.items c.in_ok-tracked.tracked.keeper.marks.items) c.args.wanted asks (pieces_of c.in_ok-ignore.ignore) old mid later new (passes_trans old at mid c.boundary_of.ensures.passes c.read_patterns.ensures.passes) c.tell_all.ensures.passes c.list_others.ensures.passes (state_still c.args.wanted old mid c.in_ok-ignore.ignore (kept_behind old at mid c.boundary_of.ensures.passes c.read_patterns.ensures.passes c.args.wanted c.in_ok-ignore.ignore c.in_ok-ignore.ensures.kept))
     (state_given old mid new (passes_trans old at mid c.boundary_of.ensures.passes c.read_patterns.ensures.passes) (passes_trans mid later new c.tell_all.ensures.passes c.list_others.ensures.passes).past c.args.wanted c.in_ok-ignore.ignore (kept_behind old at mid c.boundary_of.ensures.passes c.read_patterns.ensures.passes c.args.wanted c.in_ok-ignore.ignore c.in_ok-ignore.ensures.kept))
+    (λ needed.
+    unheld_none (known_of c.in_ok-tracked.tracked.keeper.children.items c.in_ok-tracked.tracked.keeper.marks.items) (pieces_of c.in_ok-ignore.ignore) old new (passes_trans old mid new (passes_trans old at mid c.boundary_of.ensures.passes c.read_patterns.ensures.passes) (passes_trans mid later new c.tell_all.ensures.passes c.list_others.ensures.passes)).past
+    (state_given old mid new (passes_trans old at mid c.boundary_of.ensures.passes c.read_patterns.ensures.passes) (passes_trans mid later new c.tell_all.ensures.passes c.list_others.ensures.passes).past c.args.wanted c.in_ok-ignore.ignore (kept_behind old at mid c.boundary_of.ensures.passes c.read_patterns.ensures.passes c.args.wanted c.in_ok-ignore.ignore c.in_ok-ignore.ensures.kept) needed))
     (asks_behind old at mid c.boundary_of.ensures.passes c.read_patterns.ensures.passes c.args.wanted (c.boundary_of.ensures.asked told) (c.read_patterns.ensures.asked (c.boundary_of.ensures.passes.past.told ∙ told))) (c.tell_all.ensures.asked ((c.read_patterns.ensures.passes.past.told ∙ c.boundary_of.ensures.passes.past.told) ∙ told)) (c.list_others.ensures.asked (c.tell_all.ensures.passes.past.told ∙ (c.read_patterns.ensures.passes.past.told ∙ c.boundary_of.ensures.passes.past.told) ∙ told) old (passes_trans old mid later (passes_trans old at mid c.boundary_of.ensures.passes c.read_patterns.ensures.passes) c.tell_all.ensures.passes)
     (known_earlier (known_of c.in_ok-tracked.tracked.keeper.children.items c.in_ok-tracked.tracked.keeper.marks.items) later mid.last old.last (passes_trans old at mid c.boundary_of.ensures.passes c.read_patterns.ensures.passes).past.later c.in_ok-tracked.ensures.told.known))
 
@@ -276,8 +280,11 @@ returns-clause-asked g c =
     let new = g.T.Tree.history c.list_others.new.tree in
     let asks = asked_unvouched c.args.wanted (table c.args.mixed.now) in
     λ told.
-    all_asks c.args.wanted asks (pieces_of c.in_ok-ignore.ignore) old mid later new (passes_trans old at mid c.boundary_of.ensures.passes c.read_patterns.ensures.passes) c.tell_all.ensures.passes c.list_others.ensures.passes (state_still c.args.wanted old mid c.in_ok-ignore.ignore (kept_behind old at mid c.boundary_of.ensures.passes c.read_patterns.ensures.passes c.args.wanted c.in_ok-ignore.ignore c.in_ok-ignore.ensures.kept))
+    all_asks nothing_holds (known_of c.in_ok-tracked.tracked.keeper.children.items c.in_ok-tracked.tracked.keeper.marks.items) c.args.wanted asks (pieces_of c.in_ok-ignore.ignore) old mid later new (passes_trans old at mid c.boundary_of.ensures.passes c.read_patterns.ensures.passes) c.tell_all.ensures.passes c.list_others.ensures.passes (state_still c.args.wanted old mid c.in_ok-ignore.ignore (kept_behind old at mid c.boundary_of.ensures.passes c.read_patterns.ensures.passes c.args.wanted c.in_ok-ignore.ignore c.in_ok-ignore.ensures.kept))
     (state_given old mid new (passes_trans old at mid c.boundary_of.ensures.passes c.read_patterns.ensures.passes) (passes_trans mid later new c.tell_all.ensures.passes c.list_others.ensures.passes).past c.args.wanted c.in_ok-ignore.ignore (kept_behind old at mid c.boundary_of.ensures.passes c.read_patterns.ensures.passes c.args.wanted c.in_ok-ignore.ignore c.in_ok-ignore.ensures.kept))
+    (λ needed.
+    unheld_none (known_of c.in_ok-tracked.tracked.keeper.children.items c.in_ok-tracked.tracked.keeper.marks.items) (pieces_of c.in_ok-ignore.ignore) old new (passes_trans old mid new (passes_trans old at mid c.boundary_of.ensures.passes c.read_patterns.ensures.passes) (passes_trans mid later new c.tell_all.ensures.passes c.list_others.ensures.passes)).past
+    (state_given old mid new (passes_trans old at mid c.boundary_of.ensures.passes c.read_patterns.ensures.passes) (passes_trans mid later new c.tell_all.ensures.passes c.list_others.ensures.passes).past c.args.wanted c.in_ok-ignore.ignore (kept_behind old at mid c.boundary_of.ensures.passes c.read_patterns.ensures.passes c.args.wanted c.in_ok-ignore.ignore c.in_ok-ignore.ensures.kept) needed))
     (asks_behind old at mid c.boundary_of.ensures.passes c.read_patterns.ensures.passes c.args.wanted (c.boundary_of.ensures.asked told) (c.read_patterns.ensures.asked (c.boundary_of.ensures.passes.past.told ∙ told))) (c.tell_all.ensures.asked ((c.read_patterns.ensures.passes.past.told ∙ c.boundary_of.ensures.passes.past.told) ∙ told)) (c.list_others.ensures.asked (c.tell_all.ensures.passes.past.told ∙ (c.read_patterns.ensures.passes.past.told ∙ c.boundary_of.ensures.passes.past.told) ∙ told) old (passes_trans old mid later (passes_trans old at mid c.boundary_of.ensures.passes c.read_patterns.ensures.passes) c.tell_all.ensures.passes)
     (known_earlier (known_of c.in_ok-tracked.tracked.keeper.children.items c.in_ok-tracked.tracked.keeper.marks.items) later mid.last old.last (passes_trans old at mid c.boundary_of.ensures.passes c.read_patterns.ensures.passes).past.later c.in_ok-tracked.ensures.told.known))
 
@@ -290,8 +297,11 @@ returns-clause-asked_own g c =
     let new = g.T.Tree.history c.list_others.new.tree in
     let asks = asked_unvouched c.args.wanted (table c.args.mixed.now) in
     λ ours.
-    own_asks c.args.wanted asks (pieces_of c.in_ok-ignore.ignore) old mid later new (passes_trans old at mid c.boundary_of.ensures.passes c.read_patterns.ensures.passes) c.tell_all.ensures.passes c.list_others.ensures.passes (state_still c.args.wanted old mid c.in_ok-ignore.ignore (kept_behind old at mid c.boundary_of.ensures.passes c.read_patterns.ensures.passes c.args.wanted c.in_ok-ignore.ignore c.in_ok-ignore.ensures.kept))
+    own_asks nothing_holds (known_of c.in_ok-tracked.tracked.keeper.children.items c.in_ok-tracked.tracked.keeper.marks.items) c.args.wanted asks (pieces_of c.in_ok-ignore.ignore) old mid later new (passes_trans old at mid c.boundary_of.ensures.passes c.read_patterns.ensures.passes) c.tell_all.ensures.passes c.list_others.ensures.passes (state_still c.args.wanted old mid c.in_ok-ignore.ignore (kept_behind old at mid c.boundary_of.ensures.passes c.read_patterns.ensures.passes c.args.wanted c.in_ok-ignore.ignore c.in_ok-ignore.ensures.kept))
     (state_given old mid new (passes_trans old at mid c.boundary_of.ensures.passes c.read_patterns.ensures.passes) (passes_trans mid later new c.tell_all.ensures.passes c.list_others.ensures.passes).past c.args.wanted c.in_ok-ignore.ignore (kept_behind old at mid c.boundary_of.ensures.passes c.read_patterns.ensures.passes c.args.wanted c.in_ok-ignore.ignore c.in_ok-ignore.ensures.kept))
+    (λ needed.
+    unheld_none (known_of c.in_ok-tracked.tracked.keeper.children.items c.in_ok-tracked.tracked.keeper.marks.items) (pieces_of c.in_ok-ignore.ignore) old new (passes_trans old mid new (passes_trans old at mid c.boundary_of.ensures.passes c.read_patterns.ensures.passes) (passes_trans mid later new c.tell_all.ensures.passes c.list_others.ensures.passes)).past
+    (state_given old mid new (passes_trans old at mid c.boundary_of.ensures.passes c.read_patterns.ensures.passes) (passes_trans mid later new c.tell_all.ensures.passes c.list_others.ensures.passes).past c.args.wanted c.in_ok-ignore.ignore (kept_behind old at mid c.boundary_of.ensures.passes c.read_patterns.ensures.passes c.args.wanted c.in_ok-ignore.ignore c.in_ok-ignore.ensures.kept) needed))
     (own_behind old at mid c.boundary_of.ensures.passes c.read_patterns.ensures.passes c.args.wanted (c.boundary_of.ensures.asked ours.told) (ours_first old mid new (passes_trans mid later new c.tell_all.ensures.passes c.list_others.ensures.passes).past ours)
     (c.in_ok-ignore.ensures.asked_own (ours_second old at mid c.boundary_of.ensures.passes.past (ours_first old mid new (passes_trans mid later new c.tell_all.ensures.passes c.list_others.ensures.passes).past ours))))
     (c.tell_all.ensures.asked ((c.read_patterns.ensures.passes.past.told ∙ c.boundary_of.ensures.passes.past.told) ∙ ours.told)) (c.list_others.ensures.asked (c.tell_all.ensures.passes.past.told ∙ (c.read_patterns.ensures.passes.past.told ∙ c.boundary_of.ensures.passes.past.told) ∙ ours.told) old (passes_trans old mid later (passes_trans old at mid c.boundary_of.ensures.passes c.read_patterns.ensures.passes) c.tell_all.ensures.passes)
