@@ -26,7 +26,7 @@ use Rattle.hg_save.specs.declared.loaded.Loaded.{Loaded}
 use Rattle.hg_save.proofs.Bases.{nodes_at}
 use Rattle.hg_session.proofs.Lending.{lends_by}
 use Rattle.hg_session.proofs.Locked.{end_remains, unwritten, unwritten_then}
-use Rattle.hg_session.proofs.NotesKept.{notes_keep}
+use Rattle.hg_session.proofs.NotesKept.{news_change, notes_keep}
 use Rattle.hg_session.proofs.Publishing.{kept_over, published_over}
 use Rattle.hg_session.proofs.ReadNodes.{nodes_by}
 use Rattle.hg_session.proofs.Readings.{sound_reading}
@@ -52,7 +52,7 @@ use Rattle.hg_shelf.specs.Images.{Course, Goes, last_scene, scene}
 use Rattle.hg_shelf.specs.Polite.{Undisturbed}
 use Rattle.hg_shelf.proofs.Histories.{extends_trans}
 use Rattle.hg_shelf.proofs.Scenes.{second_part}
-use Rattle.hg_walk.specs.Applying.{LendsNotes}
+use Rattle.hg_walk.specs.Applying.{LendsNotes, IsBlank}
 use Rattle.hg_walk.specs.Notes.{NotesData, applied}
 
 -- ---- faults
@@ -236,7 +236,7 @@ module _ (start : History) (b s c : Course) (ours : b.history.ours ≡ true) (pa
         (one_load start since.mid (loads.0 ∷ []) loaded (keep_earlier since.mid got start.last mid_got keep) loads.1 sound) b.history.last since.past.later (omega arith) (there calm))
 
     module _ (made : Held) (image : IsOfSameImage opened made) (begun : opened.docket ≡ docket_of bytes) (over : opened.bytes ≡ loaded.nodes.items) (writes : IsSame (table made) (applied notes (table opened)))
-        (lends : LendsNotes notes opened made) (placed : ArePlacedAsBefore opened made) (news : AreNews recorded notes) (whole : made.changed ≡ true → IsLentRight made) where
+        (lends : LendsNotes notes opened made) (placed : ArePlacedAsBefore opened made) (news : AreNews recorded notes) (some : IsBlank notes → ⊥) (whole : made.changed ≡ true → IsLentRight made) where
       docket_is : made.docket ≡ docket_of bytes
       docket_is = image.docket ∙ begun
 
@@ -287,7 +287,7 @@ module _ (start : History) (b s c : Course) (ours : b.history.ours ≡ true) (pa
       noted_unfit : (mid last : ℕ) (fault : EncodeFault) → (fault ≡ an_encode.OutOfMemory → ⊥) → MetWriting made mid last (a_change.Encode fault) → FailsOrUnwritten s.history c.history (a_change.Encode fault)
           → Undisturbed b c → IsNoted Own start recorded notes saved b.history.last c.history.last
       noted_unfit mid last fault other why failed calm =
-          inl (inr (inl (unfit calm fault other (cause_in made mid last fault why) (set_in made mid last fault why))), unwritten_then b s c passes goes (none_in fault s.history c.history failed))
+          inl (inr (unfit calm fault other (cause_in made mid last fault why) (set_in made mid last fault why)), unwritten_then b s c passes goes (none_in fault s.history c.history failed))
 
       -- where the notes were written into the table, and that was published or couldn't be
       module _ (marked : (IsSame (table made) (table opened) → ⊥) → made.changed ≡ true) (none : made.changed ≡ false → c ≡ s) where
@@ -305,7 +305,7 @@ module _ (start : History) (b s c : Course) (ours : b.history.ours ≡ true) (pa
                 subst (λ (t : Table). IsKept (stood_by c.history (tried calm.told)) recorded t saved b.history.last c.history.last) made_is
                 (kept_over b s c ours passes goes calm loaded (is calm.told) made docket_is nodes_is used (stood_by c.history (tried calm.told)) (over_made calm.told set) recorded (is_recorded used set));
           })
-          | inr unset ↦ inl (inr (inr (stays marked unset)), subst (λ (x : Course). IsUnwritten b.history x.history) (sym (none unset)) (unwritten b.history s.history passes))
+          | inr unset ↦ absurd (some (news_change recorded notes news (stays marked unset)))
         ]
 
         ends_by : (mid last : ℕ) (result : Result Unit ChangeFault) → ((plan_of made ≡ a_way.Append → HasUsed loaded (last_scene s)) → OnOk result (made.changed ≡ true → IsRecorded made s c)) → IfErr result (FailsOrUnwritten s.history c.history) → IfErr result (MetWriting made mid last)

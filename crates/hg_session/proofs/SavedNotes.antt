@@ -199,8 +199,7 @@ module _ (Own : Try → Type 0) (start : History) (recorded : Table) (notes : No
 
   why_wide : IsUnsaved Own start recorded notes inner b.history.last c.history.last → IsUnsaved Own start recorded notes outer b.history.last c.history.last
   why_wide (inl other) = inl (another_wide other)
-  why_wide (inr (inl cannot)) = inr (inl (cannot_wide cannot))
-  why_wide (inr (inr equal)) = inr (inr equal)
+  why_wide (inr cannot) = inr (cannot_wide cannot)
 
   noted_wide : IsNoted Own start recorded notes inner b.history.last c.history.last → IsNoted Own start recorded notes outer b.history.last c.history.last
   noted_wide (inl (why, none)) = inl (why_wide why, unwritten_wide a b c d lock unlock p q r taken held none)

@@ -213,9 +213,8 @@ module _ (Own Other : Try → Type 0) (by : (tried : Try) → Own tried → Othe
     noted_by : (from to : ℕ) → IsNoted Own files.old t notes saved from to → IsNoted Other files.old t notes saved from to
     noted_by from to (inl (inl is, none)) =
         inl (inl (record { tried = is.tried; own = by is.tried is.own; within = is.within; found = is.found; at = is.at; later = is.later; upto = is.upto; other = is.other }), none)
-    noted_by from to (inl (inr (inl is), none)) =
-        inl (inr (inl (record { tried = is.tried; own = by is.tried is.own; within = is.within; found = is.found; fault = is.fault; told = is.told; unfit = is.unfit })), none)
-    noted_by from to (inl (inr (inr same), none)) = inl (inr (inr same), none)
+    noted_by from to (inl (inr is, none)) =
+        inl (inr (record { tried = is.tried; own = by is.tried is.own; within = is.within; found = is.found; fault = is.fault; told = is.told; unfit = is.unfit }), none)
     noted_by from to (inr is) = inr (record { tried = is.tried; own = by is.tried is.own; within = is.within; found = is.found; held = is.held; over = is.over; kept = is.kept })
 
     held_by : IsNotedHeld Own files.old t notes saved → IsNotedHeld Other files.old t notes saved

@@ -1,12 +1,12 @@
 -- What stays lent while a command changes a table in memory: each list below which nothing differs, and each text that is recorded still.
-use Rattle.std.specs.Prelude.{ℕ, ◌≡◌, true, List, [], Option, Some}
+use Rattle.std.specs.Prelude.{ℕ, ◌≡◌, true, List, Option, Some, None}
 use Rattle.std.specs.List.{Contains}
 use Rattle.hg_base.specs.Within.{is_above}
 use Rattle.hg_entry.specs.Entry.{EntryData}
 use Rattle.hg_entry.specs.Steps.{seen_clean}
 use Rattle.hg_entry.specs.Table.{Table}
 use Rattle.hg_mixed.specs.Held.{Held, is_lent, source_at, table, text_at}
-use Rattle.hg_walk.specs.Notes.{CleanNote, NotesData}
+use Rattle.hg_walk.specs.Notes.{CleanNote, DirNote, NotesData}
 
 -- below a directory nothing differs: no node, no entry, no source and no cache
 pub record IsSameBelow (dir : Option (List ℕ)) (old new : Table) : Type 0 where
@@ -33,8 +33,16 @@ pub record IsNews (t : Table) (note : CleanNote) : Type 0 where
   pub is : t.entries note.path ≡ Some entry
   pub other : seen_clean entry note.stat note.stamp ≡ entry → ⊥
 
--- so does each, and nothing is noted of directories: else one note might take back what another wrote
+-- a note says something else of a directory than what is recorded: that cache isn't
+abbrev pub IsNewsDir : Table → DirNote → Type 0
+IsNewsDir t note = t.caches note.dir ≡ Some note.cache → ⊥
+
+-- a directory that isn't cached any more was cached
+abbrev pub IsNewsGone : Table → List ℕ → Type 0
+IsNewsGone t dir = t.caches dir ≡ None → ⊥
+
+-- so does each: of several notes of one path or directory the first is written, which is one of them
 pub record AreNews (t : Table) (notes : NotesData) : Type 0 where
   pub clean : (note : CleanNote) → Contains notes.clean note → IsNews t note
-  pub seen : notes.seen ≡ []
-  pub gone : notes.gone ≡ []
+  pub seen : (note : DirNote) → Contains notes.seen note → IsNewsDir t note
+  pub gone : (dir : List ℕ) → Contains notes.gone dir → IsNewsGone t dir

@@ -58,11 +58,11 @@ pub record CannotWrite (Own : Try → Type 0) (start new : History) (recorded : 
   pub told : fault ≡ an_encode.OutOfMemory → ⊥
   pub unfit : IsUnfit (stood_by new tried) (applied notes recorded) fault
 
--- why nothing was to be saved between two moments: another docket stood, the record can't be written, or the notes say what it says
+-- why nothing was to be saved between two moments: another docket stood, or the record can't be written with the notes
 abbrev pub IsUnsaved : (Try → Type 0) → History → Table → NotesData → Saved → ℕ → ℕ → Type 0
 IsUnsaved Own start recorded notes saved from to =
     AnotherStood Own start saved.new.history recorded from to
-    ⊎ (CannotWrite Own start saved.new.history recorded notes ⊎ IsSame (applied notes recorded) recorded)
+    ⊎ CannotWrite Own start saved.new.history recorded notes
 
 -- the record with the notes is what is recorded then, and by what a crash leaves; where it was appended, others were asked to keep what was read
 pub record IsNotedOver (Own : Try → Type 0) (start : History) (recorded : Table) (notes : NotesData) (saved : Saved) (from to : ℕ) : Type 0 where

@@ -73,6 +73,7 @@ fn save_held<S: Shelf>(
     requires nodes { mixed.old.bytes ≡ loaded.now.nodes.items }
     requires unchanged { mixed.old.changed ≡ false }
     requires can { CanApply notes (table mixed.old) }
+    requires some { IsBlank notes → ⊥ }
     // `SavesHeld` in specs/Saving.antt.
     ensures saves { (start : History) (recorded : Table) (since : IsOpenedSince start (S.history shelf.old) loaded.now recorded mixed.old) → AreNews recorded notes
         → SavesHeld

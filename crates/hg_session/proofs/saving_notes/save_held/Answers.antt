@@ -43,7 +43,7 @@ returns-clause-saves g c start recorded since news =
     rw c.unless_unfit.ensures
     (held_saved start b s d c.requires.held c.stands.ensures.passes c.stands.ensures.kept c.save.ensures.kept c.args.loaded.now c.args.loaded.now.whole.sound recorded c.args.mixed.now since c.args.notes
     (g.S.Shelf.faults c.args.shelf.now) (g.S.Shelf.faults c.save.new.shelf) (λ told. c.in_ok-same.ensures.shown told c.if-not-same.false)
-    c.apply.new.mixed c.in_ok-apply.ensures.image c.requires.over c.requires.nodes c.in_ok-apply.ensures.table c.in_ok-apply.ensures.lent c.in_ok-apply.ensures.places news c.save.ensures.lent c.in_ok-apply.ensures.changed.marked
+    c.apply.new.mixed c.in_ok-apply.ensures.image c.requires.over c.requires.nodes c.in_ok-apply.ensures.table c.in_ok-apply.ensures.lent c.in_ok-apply.ensures.places news c.requires.some c.save.ensures.lent c.in_ok-apply.ensures.changed.marked
     (λ unset i. course (g.S.Shelf.history (c.save.ensures.still unset i)) (g.S.Shelf.images (c.save.ensures.still unset i)))
     (g.S.Shelf.faults c.stands.new.shelf) (g.S.Shelf.faults c.save.new.shelf) c.save.result c.save.ensures.safe c.save.ensures.recorded c.save.ensures.unwritten c.save.ensures.met)
 
