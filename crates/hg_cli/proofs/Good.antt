@@ -92,7 +92,7 @@ module _ (x y z : tree.History) (a b c : Course) (fx fy fz : ℕ) (p q r : Watch
   }
 
   -- what a call needs its first part has
-  fair_first : (by : tree.History) → IsFair by whole both → IsFair by first front
+  pub fair_first : (by : tree.History) → IsFair by whole both → IsFair by first front
   fair_first by fair = record {
     told = fair.told;
     honest = past_honest y z second_past fair.honest;
@@ -107,7 +107,7 @@ module _ (x y z : tree.History) (a b c : Course) (fx fy fz : ℕ) (p q r : Watch
   }
 
   -- and so has its second
-  fair_second : (by : tree.History) → IsFair by whole both → IsFair by second rest
+  pub fair_second : (by : tree.History) → IsFair by whole both → IsFair by second rest
   fair_second by fair = record {
     told = first_past.told ∙ fair.told;
     honest = fair.honest;

@@ -60,7 +60,7 @@ unwritten_leads looked saved alone goes none = record {
   good = unwritten_good looked saved goes none;
 }
 
-stopped_leads : (met : Fault) (part : Seen) (code : ℕ) (fault : Option Fault) → IsStopped met part code fault → LeadsOn part.looked part.saved
+pub stopped_leads : (met : Fault) (part : Seen) (code : ℕ) (fault : Option Fault) → IsStopped met part code fault → LeadsOn part.looked part.saved
 stopped_leads met part code fault stopped = unwritten_leads part.looked part.saved stopped.idle.copy stopped.idle.kept stopped.idle.unwritten
 
 -- ---- a call of the program
@@ -74,12 +74,12 @@ module _ {T S G O E : Type 0} (views : Views T S G O E)
   abbrev Leads : Devices → Devices → Type 0
   Leads old new = LeadsOn (seen views old new).looked (seen views old new).saved
 
-  same_leads : (d : Devices) → Leads d d
+  pub same_leads : (d : Devices) → Leads d d
   same_leads d =
       unwritten_leads (seen views d d).looked (seen views d d).saved (record { history = refl; count = refl }) (goes_same (shelf_course views d.1))
       (record { none = λ k after before is. absurd (omega (arith, after, before)) })
 
-  leads_on : (first old new : Devices) → Leads first old → Leads old new → Leads first new
+  pub leads_on : (first old new : Devices) → Leads first old → Leads old new → Leads first new
   leads_on first old new one two =
       leads_both (views.tree first.0) (views.tree old.0) (views.tree new.0) (shelf_course views first.1) (shelf_course views old.1) (shelf_course views new.1)
       (views.tree_faults first.0) (views.tree_faults old.0) (views.tree_faults new.0)
@@ -116,7 +116,7 @@ module _ {T S G O E : Type 0} (views : Views T S G O E)
   carried_leads (a_command.DebugLoad n) old new code fault loaded =
       unwritten_leads (seen views old new).looked (seen views old new).saved loaded.untouched.copy loaded.untouched.kept loaded.untouched.unwritten
 
-  run_leads : (words : List (List ℕ)) (old new : Devices) (code : ℕ) (fault : Option Fault) → IsRun words (seen views old new) code fault → Leads old new
+  pub run_leads : (words : List (List ℕ)) (old new : Devices) (code : ℕ) (fault : Option Fault) → IsRun words (seen views old new) code fault → Leads old new
   run_leads words old new code fault (inl (command, is, carried)) = carried_leads command old new code fault carried
   run_leads words old new code fault (inr unread) = stopped_leads _ (seen views old new) code fault unread.undone
 
@@ -144,7 +144,7 @@ module _ {T S G O E : Type 0} (views : Views T S G O E)
 
   -- ---- lists of calls
 
-  since : (files : Scene) (h later : tree.History) → tree.Extends h later → IsGoodGround h files → IsGoodGround later files
+  pub since : (files : Scene) (h later : tree.History) → tree.Extends h later → IsGoodGround h files → IsGoodGround later files
   since files h later past ground = record {
     latest = ground.latest;
     there = ground.there;
@@ -164,7 +164,7 @@ module _ {T S G O E : Type 0} (views : Views T S G O E)
         good = λ c leaves. subst (λ (f : Files). IsGoodRecord f h (reading f)) (sym (begun.alone c leaves)) good;
       }
 
-  each : (call : Given T G O E) (old new : Between S) → CallsFairly views call old new → Unit {0} → IsGoodShelf views old → CallsGood views call old new × IsGoodShelf views new
+  pub each : (call : Given T G O E) (old new : Between S) → CallsFairly views call old new → Unit {0} → IsGoodShelf views old → CallsGood views call old new × IsGoodShelf views new
   each call old new does premise sound =
       let leads = call_leads call.words call.from call.to (devices call.old old.0) (devices call.new new.0) call.code call.fault does.does in
       let by = views.tree call.new.tree in

@@ -4,6 +4,7 @@ pub mod Counting
 pub mod Following
 pub mod Good
 pub mod GoodLists
+pub mod Headline
 pub mod Letters
 pub mod Lining
 pub mod Lists

@@ -73,7 +73,7 @@ none_seen None false cache is none = none
 none_seen (Some note) gone cache is none = absurd (cc (is))
 
 -- a publication keeps the plain store, by either way
-plain_kept : (way : Way) (docket : Contents) (old new : shelf.Files) → KeepsBy way docket old new → (name : List ℕ) → is_plain name ≡ true → new name ≡ old name
+pub plain_kept : (way : Way) (docket : Contents) (old new : shelf.Files) → KeepsBy way docket old new → (name : List ℕ) → is_plain name ≡ true → new name ≡ old name
 plain_kept a_way.Rewrite docket old new kept name plain =
     kept.2.others name (not_plain name (codes "dirstate") refl plain) (not_plain name new_docket refl plain) (not_plain name (data_name docket.id) refl plain) (not_plain name (data_name kept.0) refl plain)
 plain_kept a_way.Append docket old new kept name plain =

@@ -1,7 +1,7 @@
 //! What holds of every list of calls, scripts included.
 
 ghost use Rattle.hg_cli.specs.Calls.{EachCallIsSafe, Leads, StaySafe};
-ghost use Rattle.hg_cli.specs.Good.{EachCallIsGood};
+ghost use Rattle.hg_cli.specs.Good.{EachCallIsGood, EachStatusIsFull};
 ghost use Rattle.hg_cli.specs.Said.{plainly, safely};
 ghost use Rattle.hg_shelf.specs.Images.{course};
 
@@ -42,6 +42,25 @@ pub fn each_run_is_safe<S: Shelf>()
 /// of its moments, where it has what it needs of others: honest times, a plain store whose files stay once they are there, and good records of theirs.
 pub fn each_call_is_good<T: Tree, S: Shelf, G: Regexps, O: Sink, E: Sink>()
     ensures { EachCallIsGood (record {
+      tree = T.history;
+      tree_faults = T.faults;
+      shelf = S.history;
+      images = S.images;
+      shelf_faults = S.faults;
+      held = S.held;
+      oversize = G.oversize;
+      out = O.bytes;
+      out_faults = O.faults;
+      err = E.bytes;
+      err_faults = E.faults;
+    }) }
+{}
+
+/// So each status in such a list of calls, and in a script too, that ended without a fault printed exactly the full listing of what stood there at its start,
+/// where nobody else makes a step during its call and no two states of ignore patterns share a hash: whatever calls came before, what others did
+/// between them, and also where the first shelf is what a crash left.
+pub fn each_status_is_full<T: Tree, S: Shelf, G: Regexps, O: Sink, E: Sink>()
+    ensures { EachStatusIsFull (record {
       tree = T.history;
       tree_faults = T.faults;
       shelf = S.history;

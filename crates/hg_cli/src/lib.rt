@@ -22,5 +22,5 @@ mod reading;
 mod script;
 mod top;
 
-pub use laws::{each_call_is_good, each_call_is_safe, each_run_is_safe};
+pub use laws::{each_call_is_good, each_call_is_safe, each_run_is_safe, each_status_is_full};
 pub use top::run;
