@@ -4,11 +4,12 @@ use Rattle.hg_cli.proofs.Following.{Follows, PartsFollow, call_follows}
 use Rattle.hg_cli.proofs.Lists.{Kept, Steps, back, each, none_before, stay_safe}
 use Rattle.hg_cli.specs.Calls.{Calls, EachCallIsSafe, Leads, OthersKeep, StaySafe, devices}
 use Rattle.hg_cli.specs.Kinds.{kind_of}
-use Rattle.hg_cli.specs.Run.{Carries, IsRun, IsStopped, made_carried, made_run}
+use Rattle.hg_cli.specs.Run.{Carries, IsRun, IsStopped, call_of, made_carried, made_run}
 use Rattle.hg_cli.specs.Said.{plainly, safely}
 use Rattle.hg_cli.specs.Seen.{Seen, Views, saved_over, seen, shelf_course}
 use Rattle.hg_report.specs.declared.fault.Fault.{Fault}
 use Rattle.hg_session.proofs.Crashes.{crash_unwritten}
+use Rattle.hg_session.proofs.Firm.{answered_upon}
 use Rattle.hg_session.specs.Acts.{Makes, makes_nothing}
 use Rattle.hg_session.specs.Call.{Count, Looked, Saved, Sink}
 use Rattle.hg_session.specs.Change.{IsUnwritten}
@@ -27,14 +28,14 @@ stopped_steps : (met : Fault) (part : Seen) (code : ℕ) (fault : Option Fault) 
 stopped_steps met part code fault stopped = unwritten_steps part.saved stopped.idle.kept stopped.idle.unwritten
 
 carried_steps : (command : Command) (part : Seen) (code : ℕ) (fault : Option Fault) (is : Carries command part code fault) → Steps (made_carried command part code fault is) part.saved
-carried_steps (a_command.Status flags) part code fault answered = (answered.kept, answered.crash)
-carried_steps (a_command.Add files) part code fault answered = (answered.kept, answered.crash)
-carried_steps (a_command.Forget files) part code fault answered = (answered.kept, answered.crash)
-carried_steps (a_command.Remove after files) part code fault answered = (answered.kept, answered.crash)
-carried_steps (a_command.Copy source target) part code fault answered = (answered.kept, answered.crash)
-carried_steps (a_command.SetParents p1 p2) part code fault answered = (answered.kept, answered.crash)
-carried_steps a_command.DebugDirstate part code fault answered = (answered.kept, answered.crash)
-carried_steps a_command.DebugScript part code fault answered = (answered.kept, answered.crash)
+carried_steps (a_command.Status flags) part code fault answered = (answered.kept, answered_upon (call_of (a_command.Status flags) part) code fault answered)
+carried_steps (a_command.Add files) part code fault answered = (answered.kept, answered_upon (call_of (a_command.Add files) part) code fault answered)
+carried_steps (a_command.Forget files) part code fault answered = (answered.kept, answered_upon (call_of (a_command.Forget files) part) code fault answered)
+carried_steps (a_command.Remove after files) part code fault answered = (answered.kept, answered_upon (call_of (a_command.Remove after files) part) code fault answered)
+carried_steps (a_command.Copy source target) part code fault answered = (answered.kept, answered_upon (call_of (a_command.Copy source target) part) code fault answered)
+carried_steps (a_command.SetParents p1 p2) part code fault answered = (answered.kept, answered_upon (call_of (a_command.SetParents p1 p2) part) code fault answered)
+carried_steps a_command.DebugDirstate part code fault answered = (answered.kept, answered_upon (call_of a_command.DebugDirstate part) code fault answered)
+carried_steps a_command.DebugScript part code fault answered = (answered.kept, answered_upon (call_of a_command.DebugScript part) code fault answered)
 carried_steps (a_command.DebugLoad n) part code fault loaded = unwritten_steps part.saved loaded.untouched.kept loaded.untouched.unwritten
 
 run_steps : (words : List (List ℕ)) (part : Seen) (code : ℕ) (fault : Option Fault) (run : IsRun words part code fault) → Steps (made_run words part code fault run) part.saved

@@ -19,7 +19,7 @@ use Rattle.hg_save.specs.Others.{HasData}
 use Rattle.hg_save.specs.Record.{id_in, reading}
 use Rattle.hg_save.specs.Saved.{name_after, used_in}
 use Rattle.hg_session.proofs.Crashes.{crash_unwritten}
-use Rattle.hg_session.proofs.Firm.{safe_upon}
+use Rattle.hg_session.proofs.Firm.{answered_upon}
 use Rattle.hg_session.proofs.GoodCalls.{alone_past, answered_good, firm_by, unwritten_good}
 use Rattle.hg_session.proofs.GoodParts.{there_upto}
 use Rattle.hg_session.proofs.GoodStays.{good_later}
@@ -97,7 +97,7 @@ module _ {T S G O E : Type 0} (views : Views T S G O E)
         past = good.past;
         goes = answered.kept;
         ground = λ by past fair ground.
-            let safe = safe_upon (made_by command (call_of command (seen views old new)) code fault answered.ran) (seen views old new).saved answered.crash fair.calm fair.keep ground.latest
+            let safe = answered_upon (call_of command (seen views old new)) code fault answered fair.calm fair.keep ground.latest
             (firm_by (seen views old new).looked (seen views old new).saved by answered.kept fair ground) in
             ground_by (seen views old new).looked (seen views old new).saved safe.0 by answered.kept fair ground safe.2
             (good.stays by past fair ground (shelf_course views new.1).history.last answered.kept.past.later (omega arith));

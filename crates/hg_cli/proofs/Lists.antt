@@ -6,13 +6,13 @@ use Rattle.hg_save.proofs.Published.{keeps_later, orderly_same}
 use Rattle.hg_save.specs.Behind.{KeepsUsed}
 use Rattle.hg_save.specs.Loads.{files_at}
 use Rattle.hg_save.specs.Others.{HasData, KeepData, KeepsRecords}
-use Rattle.hg_session.proofs.Firm.{kept_upto, safe_upon}
+use Rattle.hg_session.proofs.Firm.{IsSafeUpon, kept_upto}
 use Rattle.hg_session.proofs.GoodParts.{data_before, data_later, from_moment}
 use Rattle.hg_session.proofs.UsedSteps.{used_beside, used_both, used_later, used_shorter}
 use Rattle.hg_session.specs.Acts.{Makes}
 use Rattle.hg_session.specs.Call.{Saved}
 use Rattle.hg_session.specs.Change.{NoneOurs, up_to}
-use Rattle.hg_session.specs.Crash.{IsSafeBy, IsSafeFromCrashes}
+use Rattle.hg_session.specs.Crash.{IsSafeBy}
 use Rattle.hg_shelf.proofs.Scenes.{only_before, only_later}
 use Rattle.hg_shelf.specs.History.{Who, others, us}
 use Rattle.hg_shelf.specs.Images.{Course, Goes, last_scene}
@@ -29,7 +29,7 @@ keeps_before by a b from goes keep = record {
 
 -- what a call keeps whatever it was: the moments so far, and what a crash may leave
 abbrev pub Steps : Makes → Saved → Type 0
-Steps Does saved = Goes saved.old saved.new × IsSafeFromCrashes Does saved
+Steps Does saved = Goes saved.old saved.new × IsSafeUpon Does saved
 
 pub none_before : (k last : ℕ) → last ≤ k → k < last → ⊥
 none_before k last after before = omega (arith, after, before)
@@ -77,7 +77,7 @@ module _ (first : Course) where
       let shelf : IsSoundShelf a = kept.2.shelf in
       let on : KeepsOn a b = keeps_on a b steps.0 calm kept.0 premise.told shelf.there premise.kept in
       let safe : IsSafeBy Does (record { old = a; new = b }) =
-      safe_upon Does (record { old = a; new = b }) steps.1 calm (keeps_later others b start a.history.last kept.0 premise.keep) shelf.latest (record { sound = shelf.sound; kept = on.upto }) in
+      steps.1 calm (keeps_later others b start a.history.last kept.0 premise.keep) shelf.latest (record { sound = shelf.sound; kept = on.upto }) in
       let within = steps.0.past.later in
       let keeps : KeepData b.history a.history.last = on.whole safe.2.keeping in (
         safe,

@@ -14,9 +14,9 @@ use Rattle.hg_ops.specs.declared.refusal.OpFault.TheVariants as an_op_fault
 use Rattle.hg_report.specs.Cause.{of_op, of_status}
 use Rattle.hg_report.specs.declared.fault.Fault.{Fault}
 use Rattle.hg_report.specs.declared.fault.Fault.TheVariants as a_fault
-use Rattle.hg_session.proofs.Firm.{noted_upto, safe_from}
+use Rattle.hg_session.proofs.Firm.{noted_upto}
 use Rattle.hg_session.proofs.Makers.{asks_none, may_note_nothing, may_nothing}
-use Rattle.hg_session.specs.Acts.{Makes}
+use Rattle.hg_session.specs.Acts.{Makes, makes_nothing}
 use Rattle.hg_session.specs.Answered.{IsAnswered, IsIdle, IsUnbuilt, Ran, made_by}
 use Rattle.hg_session.specs.Call.{Call, Count, Fails, IsLeftAlone, Looked, Saved, Sink, Watched}
 use Rattle.hg_session.specs.Cause.{CommandCause}
@@ -39,7 +39,7 @@ use Rattle.hg_session.specs.declared.print_fault.PrintFault.{PrintFault}
 use Rattle.hg_session.specs.declared.print_fault.PrintFault.TheVariants as a_print
 use Rattle.hg_session.specs.declared.read_fault.ReadFault.{ReadFault}
 use Rattle.hg_session.specs.declared.read_fault.ReadFault.TheVariants as a_read
-use Rattle.hg_session.proofs.Crashes.{crash_unwritten, latest_safe}
+use Rattle.hg_session.proofs.Crashes.{crash_safe, crash_unwritten, latest_safe}
 use Rattle.hg_session.proofs.Locked.{unwritten}
 use Rattle.hg_session.proofs.Looks.{joined, not_without, status_failed}
 use Rattle.hg_session.proofs.Printing.{never_rose}
@@ -47,7 +47,7 @@ use Rattle.hg_session.proofs.Readings.{first_read, was_loaded}
 use Rattle.hg_session.proofs.Records.{record_by}
 use Rattle.hg_session.proofs.Statuses.{ran_status, status_calm, status_streams, status_tree, well}
 use Rattle.hg_shelf.specs.History as shelf
-use Rattle.hg_shelf.specs.Images.{Scene}
+use Rattle.hg_shelf.specs.Images.{Goes, Scene}
 use Rattle.hg_walk.specs.Notes.{NotesData}
 use Rattle.hg_words.specs.declared.flags.StatusFlags.{StatusFlags}
 use Rattle.hg_words.specs.declared.given.Command.{Command}
@@ -201,9 +201,14 @@ looked_status : (code : ℕ) (fault : Option Fault) → MatchOption fault (code 
 looked_status code None is = inl is
 looked_status code (Some fault) is = is
 
-pub answered_looked : (call : Call) (code : ℕ) (fault : Option Fault) → Ran call.command call code fault → OnlyReads call.saved call.locks → (fault ≡ None → IsCalm call.looked call.out call.err)
-    → MatchOption fault (code ≡ 0) (λ f. code ≡ 255) → IsLeftAlone call.looked.tree → OnStream fault (call.looked.shelf.after ≡ call.looked.shelf.before) → IfSome fault (CommandCause call) → IsAnswered call code fault
-answered_looked call code fault ran only calm status alone streams cause =
+-- a command that makes nothing of the record
+nothing_safe : (saved : Saved) (fault : Option Fault) → Goes saved.old saved.new → IsSafeFromCrashes makes_nothing saved fault
+nothing_safe saved fault kept calm keep first = crash_safe saved.old saved.new kept calm keep makes_nothing (λ before behind may. may) first (λ keeps k later within none. tt) fault
+
+pub answered_looked : (call : Call) (code : ℕ) (fault : Option Fault) (ran : Ran call.command call code fault) → OnlyReads call.saved call.locks → (fault ≡ None → IsCalm call.looked call.out call.err)
+    → MatchOption fault (code ≡ 0) (λ f. code ≡ 255) → IsLeftAlone call.looked.tree → OnStream fault (call.looked.shelf.after ≡ call.looked.shelf.before) → IfSome fault (CommandCause call)
+    → IsSafeFromCrashes (made_by call.command call code fault ran) call.saved fault → IsAnswered call code fault
+answered_looked call code fault ran only calm status alone streams cause safe =
     let none : IsUnwritten call.saved.old.history call.saved.new.history = unwritten call.saved.old.history call.saved.new.history only.passes in
     record {
       ran = ran;
@@ -213,7 +218,7 @@ answered_looked call code fault ran only calm status alone streams cause =
       tree = λ rose. absurd (never_rose call.looked.tree.before call.looked.tree.after alone.count rose);
       memory = λ is. inl (inl none);
       kept = only.kept;
-      crash = λ calm keep first ground. (None, tt, crash_unwritten call.saved.old call.saved.new only.kept calm keep none first);
+      crash = safe;
       latest = λ calm keep first. (crash_unwritten call.saved.old call.saved.new only.kept calm keep none first).latest;
       status = looked_status code fault status;
     }
@@ -259,8 +264,9 @@ answered_changed call code fault is ends status =
       tree = ends.tree;
       memory = λ none. by_changed (λ Does. HadNoMemory Does call) call code fault changed call.command is (changed_memory call is changed.come.read changed.come.work fault changed.shows none);
       kept = ends.kept;
-      crash = by_changed (λ Does. IsSafeFromCrashes Does call.saved) call code fault changed call.command is
-          (safe_from call.saved ends.kept (come_so changed.come) nothing (λ ground k later within none. asks_none call.command call.looked.tree call.looked.shelf call.saved.new.history k) fault changed.safe);
+      crash = by_changed (λ Does. IsSafeFromCrashes Does call.saved fault) call code fault changed call.command is
+          (λ calm keep first. crash_safe call.saved.old call.saved.new ends.kept calm keep (come_so changed.come) nothing first
+          (λ kept k later within none. asks_none call.command call.looked.tree call.looked.shelf call.saved.new.history k) fault);
       latest = λ calm keep first. latest_safe call.saved.old call.saved.new ends.kept calm keep (come_so changed.come) nothing first fault (changed.safe calm);
       status = status;
     }
@@ -288,7 +294,8 @@ answered_status command flags looked saved locks out mid tail bytes count done c
       tree = status_tree command flags looked saved locks out mid tail bytes count done code fault does ends;
       memory = status_memory call flags refl ran.notes ran.table (some_read looked.shelf ran.table ran.loaded) (noted_in looked.shelf ran.table ran.notes) fault ran.looks;
       kept = does.kept;
-      crash = safe_from saved does.kept (noted_in looked.shelf ran.table ran.notes) (may_note_nothing looked.shelf ran.table ran.notes) (λ ground. noted_upto saved.old saved.new ground looked.shelf same ran.table ran.notes) fault ran.saving.safe;
+      crash = λ calm keep first. crash_safe saved.old saved.new does.kept calm keep (noted_in looked.shelf ran.table ran.notes) (may_note_nothing looked.shelf ran.table ran.notes) first
+          (λ kept. noted_upto saved.old saved.new kept looked.shelf same ran.table ran.notes) fault;
       latest = λ calm keep first. latest_safe saved.old saved.new does.kept calm keep (noted_in looked.shelf ran.table ran.notes) (may_note_nothing looked.shelf ran.table ran.notes) first fault (ran.saving.safe calm);
       status = looked_status code fault ends.status;
     })
@@ -299,8 +306,10 @@ pub answered_record : (call : Call) (code : ℕ) (fault : Option Fault) → call
     → (fault ≡ None → IsCalm call.looked call.out call.err) → OnlyReads call.saved call.locks → shelf.Passes call.looked.shelf.old call.looked.shelf.new
     → MatchOption fault (code ≡ 0) (λ f. code ≡ 255) → OnStream fault (call.looked.shelf.after ≡ call.looked.shelf.before) → IsAnswered call code fault
 answered_record call code fault is shows below alone uncounted calm only passes status streams =
-    answered_looked call code fault (subst (λ (c : Command). Ran c call code fault) (sym is) (record_by call passes fault shows below alone uncounted code only (well code fault status))) only calm status alone streams
-    (record_cause call fault shows.came shows.prints shows.tells)
+    let ran : Ran call.command call code fault =
+    subst (λ (c : Command). Ran c call code fault) (sym is) (record_by call passes fault shows below alone uncounted code only (well code fault status)) in
+    answered_looked call code fault ran only calm status alone streams (record_cause call fault shows.came shows.prints shows.tells)
+    (subst (λ (c : Command). (ran : Ran c call code fault) → IsSafeFromCrashes (made_by c call code fault ran) call.saved fault) (sym is) (λ ran. nothing_safe call.saved fault only.kept) ran)
 
 -- ---- a command that isn't built
 
@@ -315,6 +324,19 @@ ran_unbuilt call code fault unbuilt a_command.DebugDirstate is = absurd (true≢
 ran_unbuilt call code fault unbuilt a_command.DebugScript is = unbuilt
 ran_unbuilt call code fault unbuilt (a_command.DebugLoad n) is = unbuilt
 
+-- what is said of what a command makes holds of nothing
+by_unbuilt : (Of : Makes → Type 0) (call : Call) (code : ℕ) (fault : Option Fault) (command : Command) (ran : Ran command call code fault) → is_done command ≡ false → Of makes_nothing
+    → Of (made_by command call code fault ran)
+by_unbuilt Of call code fault (a_command.Status flags) ran is by = absurd (true≢false is)
+by_unbuilt Of call code fault (a_command.Add files) ran is by = absurd (true≢false is)
+by_unbuilt Of call code fault (a_command.Forget files) ran is by = absurd (true≢false is)
+by_unbuilt Of call code fault (a_command.Remove after files) ran is by = absurd (true≢false is)
+by_unbuilt Of call code fault (a_command.Copy source target) ran is by = absurd (true≢false is)
+by_unbuilt Of call code fault (a_command.SetParents p1 p2) ran is by = absurd (true≢false is)
+by_unbuilt Of call code fault a_command.DebugDirstate ran is by = absurd (true≢false is)
+by_unbuilt Of call code fault a_command.DebugScript ran is by = by
+by_unbuilt Of call code fault (a_command.DebugLoad n) ran is by = by
+
 unbuilt_cause : (call : Call) (answered : Option Fault) → IsFaultOrMemory answered a_fault.NotBuilt → is_done call.command ≡ false → IfSome answered (CommandCause call)
 unbuilt_cause call answered (inl same) is = subst (λ (f : Option Fault). IfSome f (CommandCause call)) (sym same) is
 unbuilt_cause call answered (inr memory) is = subst (λ (f : Option Fault). IfSome f (CommandCause call)) (sym memory) tt
@@ -322,6 +344,8 @@ unbuilt_cause call answered (inr memory) is = subst (λ (f : Option Fault). IfSo
 pub answered_unbuilt : (call : Call) (code : ℕ) (fault : Option Fault) → is_done call.command ≡ false → IsFaultOrMemory fault a_fault.NotBuilt → IfSome fault (Tells call.err)
     → IsIdle call.looked call.saved call.locks call.out → shelf.Passes call.saved.old.history call.saved.new.history → code ≡ 255 → IsAnswered call code fault
 answered_unbuilt call code fault is answered told idle passes status =
-    answered_looked call code fault (ran_unbuilt call code fault (record { answered = answered; told = told; idle = idle; status = status }) call.command is)
+    let ran : Ran call.command call code fault = ran_unbuilt call code fault (record { answered = answered; told = told; idle = idle; status = status }) call.command is in
+    answered_looked call code fault ran
     (record { passes = passes; kept = idle.kept; held = idle.held }) (λ none. not_without fault a_fault.NotBuilt answered none) (status_failed code a_fault.NotBuilt fault answered status) idle.copy
     (on_stream fault idle.files_count) (unbuilt_cause call fault answered is)
+    (by_unbuilt (λ Does. IsSafeFromCrashes Does call.saved fault) call code fault call.command ran is (nothing_safe call.saved fault idle.kept))

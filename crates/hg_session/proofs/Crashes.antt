@@ -13,12 +13,11 @@ use Rattle.hg_save.specs.Others.{KeepsRecords, WasPublished}
 use Rattle.hg_save.specs.Record.{IsReadable, reading}
 use Rattle.hg_save.specs.Saved.{IsLatest, ReadsAsBeforeOr}
 use Rattle.hg_session.proofs.Makers.{none_since, unwritten_only}
-use Rattle.hg_session.proofs.OwnTables.{IsFirmFor, published_in}
 use Rattle.hg_session.proofs.UsedSteps.{used_front}
 use Rattle.hg_session.specs.Acts.{Makes, makes_nothing}
 use Rattle.hg_session.specs.Call.{Saved}
 use Rattle.hg_session.specs.Change.{IsFirm, IsKept, IsSafe, IsUnwritten, NoneOurs, Publishes, Stretch}
-use Rattle.hg_session.specs.Crash.{IsCrashSafe, IsLasting, LeavesSound, MightBeLeft}
+use Rattle.hg_session.specs.Crash.{IsCrashSafe, IsFirmFor, IsLasting, KeepToFirstStep, LeavesSound, MightBeLeft, published_in}
 use Rattle.hg_session.specs.Ways.{Stood}
 use Rattle.hg_shelf.proofs.Scenes.{only_later}
 use Rattle.hg_shelf.specs.History.{Files, others, us}
@@ -70,6 +69,10 @@ module _ (a b : Course) (goes : Goes a b) (calm : Undisturbed a b) (keep : Keeps
   known_sound Own own_sound sound k within r (inl was) = let is = sound was.0 was.1 in (is.0, was.2 ∙ is.1)
   known_sound Own own_sound sound k within r (inr (inl own)) = own_sound r own
   known_sound Own own_sound sound k within r (inr (inr was)) = published_sound b start k r keep within was
+
+  -- others kept what was read until then, also where they keep what dockets name as long as the call makes no step
+  abbrev pub IsFairBy : Makes → Type 0
+  IsFairBy Does = KeepToFirstStep saved → (k : ℕ) → start ≤ k → k ≤ b.history.last → NoneOurs b.history start k → Does.fair b.history k
 
   module _ (Does : Makes) (nothing : (before behind : Scene) → Does.may before behind → ⊥) (first : IsLatest (last_scene a)) where
     first_there : IsLatest (scene b start)
@@ -138,8 +141,12 @@ module _ (a b : Course) (goes : Goes a b) (calm : Undisturbed a b) (keep : Keeps
     latest_safe fault (inl only) = latest_until b start calm.others keep b.history.last goes.past.later (unwritten_only Does.may nothing saved only).none (omega arith) first_there
     latest_safe fault (inr (may, is)) = latest_last is
 
-    pub crash_safe : (fault : Option Fault) (safe : IsSafe Does saved fault) → IsFirmFor Does saved fault safe → IsCrashSafe (published_in Does saved fault safe) saved
-    crash_safe fault (inl only) firm =
+    fair_at : IsFairBy Does → (is : Publishes Does saved) → Does.fair b.history is.since ⊎ KeepToFirstStep saved → Does.fair b.history is.since
+    fair_at fair is (inl kept) = kept
+    fair_at fair is (inr keep) = fair keep is.since (start_since is) (since_end is) (none_yet is)
+
+    pub crash_safe : IsFairBy Does → (fault : Option Fault) (safe : IsSafe Does saved fault) → IsFirmFor Does saved fault safe → IsCrashSafe (published_in Does saved fault safe) saved
+    crash_safe fair fault (inl only) firm =
         let none : IsUnwritten a.history b.history = unwritten_only Does.may nothing saved only in
         let known : (k : ℕ) (f : Files) → start ≤ k → k ≤ b.history.last → (scene b k).leaves f → IsKnown (λ r. ⊥) k (reading f) =
         λ k f after within left. known_before (λ r. ⊥) k after (none_before b start b.history.last k within none.none) within f left in
@@ -150,17 +157,19 @@ module _ (a b : Course) (goes : Goes a b) (calm : Undisturbed a b) (keep : Keeps
           keeping = record { each = λ k after before who. absurd (none.none k after before who) };
           latest = latest_until b start calm.others keep b.history.last goes.past.later none.none (omega arith) first_there;
         }
-    crash_safe fault (inr (may, is)) firm = record {
-      each = known_each is firm;
-      sound = λ sound k after within f left. known_sound (Own is firm) (λ r own. (is.is.found, own)) sound k within (reading f) (known_each is firm k f after within left);
-      orderly = keeps_front us b start is.since (none_yet is) (is.is.orderly (latest_from is) (firm_from is firm));
-      keeping = used_front us b.history start is.since (none_yet is) (is.is.keeping (λ way. (firm way).1));
-      latest = latest_last is;
-    }
+    crash_safe fair fault (inr (may, is)) ground =
+        let firm : plan_of is.is.held ≡ a_way.Append → LeavesSound (last_scene a) × Does.fair b.history is.since = λ way. ((ground way).0, fair_at fair is (ground way).1) in
+        record {
+          each = known_each is firm;
+          sound = λ sound k after within f left. known_sound (Own is firm) (λ r own. (is.is.found, own)) sound k within (reading f) (known_each is firm k f after within left);
+          orderly = keeps_front us b start is.since (none_yet is) (is.is.orderly (latest_from is) (firm_from is firm));
+          keeping = used_front us b.history start is.since (none_yet is) (is.is.keeping (λ way. (firm way).1));
+          latest = latest_last is;
+        }
 
   -- also where the caller makes no step
   pub crash_unwritten : IsUnwritten a.history b.history → IsLatest (last_scene a) → IsCrashSafe None saved
-  crash_unwritten none first = crash_safe makes_nothing (λ before behind may. may) first None (inl (inl none)) tt
+  crash_unwritten none first = crash_safe makes_nothing (λ before behind may. may) first (λ keep k after within own. tt) None (inl (inl none)) tt
 
   lasts_by : (stood : Stood) (loaded made : Table) (stretch : Stretch a.history b.history) (kept : IsKept stood loaded made saved stretch.from stretch.to)
       → (((c : Files) → (scene b stretch.to).leaves c → reading c ≡ Some (Ok kept.found)) ⊎ (IsSame made loaded × IsUnwritten a.history b.history))

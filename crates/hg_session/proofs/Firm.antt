@@ -7,20 +7,22 @@ use Rattle.hg_save.specs.Others.{HasData, KeepData, KeepsRecords}
 use Rattle.hg_save.proofs.Spans.{keep_used}
 use Rattle.hg_save.specs.Behind.{IsKeepingUsed, KeepsUsed}
 use Rattle.hg_save.specs.Saved.{IsLatest}
-use Rattle.hg_session.proofs.Crashes.{crash_safe}
 use Rattle.hg_session.proofs.GoodParts.{from_moment}
-use Rattle.hg_session.proofs.Makers.{none_since}
-use Rattle.hg_session.proofs.OwnTables.{IsFirmFor, own_of, published_in}
+use Rattle.hg_session.proofs.Locked.{unwritten}
+use Rattle.hg_session.proofs.OwnTables.{own_of}
 use Rattle.hg_session.proofs.UsedSteps.{used_shorter, using_itself}
 use Rattle.hg_session.specs.Acts.{Makes}
-use Rattle.hg_session.specs.Call.{Saved, Watched}
+use Rattle.hg_session.specs.Answered.{IsAnswered, Ran, made_by}
+use Rattle.hg_session.specs.Call.{Call, Saved, Watched}
 use Rattle.hg_session.specs.Change.{IsSafe, NoneOurs, up_to}
-use Rattle.hg_session.specs.Crash.{Appends, IsFirmGround, IsSafeBy, IsSafeFromCrashes}
+use Rattle.hg_session.specs.Crash.{IsFirmFor, IsSafeBy, KeepToFirstStep, LeavesSound, published_in}
 use Rattle.hg_session.specs.Status.{noted_in}
 use Rattle.hg_shelf.specs.History.{History, Who, others, readers, us}
-use Rattle.hg_shelf.specs.Images.{Course, Goes, Scene, last_scene}
+use Rattle.hg_shelf.specs.Images.{Course, Goes, last_scene}
 use Rattle.hg_shelf.specs.Polite.{Undisturbed}
 use Rattle.hg_walk.specs.Notes.{NotesData}
+use Rattle.hg_words.specs.declared.given.Command.{Command}
+use Rattle.hg_words.specs.declared.given.Command.TheVariants as a_command
 
 -- where others keep the bytes that dockets use, and the standing docket's are there at first, the data that dockets name are kept up to a moment before which the
 -- caller made no step
@@ -37,31 +39,45 @@ kept_upto a b goes calm there used k later within none =
           subst (IsKeepingUsed (files_at b.history j)) (sym (calm.others.same j after (omega (arith, before, within)) who).shown) (using_itself (files_at b.history j));
     }
 
-pub noted_upto : (a b : Course) (ground : IsFirmGround (record { old = a; new = b })) (files : Watched History) → files.old.last ≡ a.history.last → (table : Option Table) (notes : NotesData) (k : ℕ)
+pub noted_upto : (a b : Course) → KeepToFirstStep (record { old = a; new = b }) → (files : Watched History) → files.old.last ≡ a.history.last → (table : Option Table) (notes : NotesData) (k : ℕ)
     → a.history.last ≤ k → k ≤ b.history.last → NoneOurs b.history a.history.last k → (noted_in files table notes).fair b.history k
-noted_upto a b ground files same None notes k later within none = tt
-noted_upto a b ground files same (Some t) notes k later within none = subst (KeepData (up_to k b.history)) (sym same) (ground.kept k later within none)
+noted_upto a b keep files same None notes k later within none = tt
+noted_upto a b keep files same (Some t) notes k later within none = subst (KeepData (up_to k b.history)) (sym same) (keep k later within none)
 
-module _ (saved : Saved) (Does : Makes) (nothing : (before behind : Scene) → Does.may before behind → ⊥)
-    (fair : IsFirmGround saved → (k : ℕ) → saved.old.history.last ≤ k → k ≤ saved.new.history.last → NoneOurs saved.new.history saved.old.history.last k → Does.fair saved.new.history k) where
-  -- what is asked besides holds where the call appended
-  firm_for : (fault : Option Fault) (safe : IsSafe Does saved fault) → (Appends Does saved → IsFirmGround saved) → IsFirmFor Does saved fault safe
-  firm_for fault (inl only) ground = tt
-  firm_for fault (inr (may, is)) ground = λ way.
-      let firm : IsFirmGround saved = ground (is, way) in
-      (firm.sound, fair firm is.since (omega (arith, is.stretch.start, is.from)) (omega (arith, is.upto, is.stretch.end)) (none_since Does nothing saved is))
+-- ---- the same upon one ground for whatever a call wrote
 
--- so it leaves no record but what it should
-pub safe_from : (saved : Saved) (goes : Goes saved.old saved.new) (Does : Makes) (nothing : (before behind : Scene) → Does.may before behind → ⊥)
-    (fair : IsFirmGround saved → (k : ℕ) → saved.old.history.last ≤ k → k ≤ saved.new.history.last → NoneOurs saved.new.history saved.old.history.last k → Does.fair saved.new.history k)
-    (fault : Option Fault) → (Undisturbed saved.old saved.new → IsSafe Does saved fault) → IsSafeFromCrashes Does saved
-safe_from saved goes Does nothing fair fault safe calm keep first ground = (
-  published_in Does saved fault (safe calm),
-  own_of Does saved fault (safe calm),
-  crash_safe saved.old saved.new goes calm keep Does nothing first fault (safe calm) (firm_for saved Does nothing fair fault (safe calm) ground),
-)
+-- what a crash might have left at the start is sound, and others keep the data that dockets name as long as the call made no step
+pub record IsFirmGround (saved : Saved) : Type 0 where
+  pub sound : LeavesSound (last_scene saved.old)
+  pub kept : KeepToFirstStep saved
 
--- and so it is upon such ground, whatever it wrote
-pub safe_upon : (Does : Makes) (saved : Saved) → IsSafeFromCrashes Does saved → Undisturbed saved.old saved.new → KeepsRecords others saved.new saved.old.history.last → IsLatest (last_scene saved.old) → IsFirmGround saved
-    → IsSafeBy Does saved
-safe_upon Does saved crash calm keep latest ground = crash calm keep latest (λ appends. ground)
+-- upon it a call is safe from crashes
+abbrev pub IsSafeUpon : Makes → Saved → Type 0
+IsSafeUpon Does saved =
+    Undisturbed saved.old saved.new → KeepsRecords others saved.new saved.old.history.last → IsLatest (last_scene saved.old) → IsFirmGround saved → IsSafeBy Does saved
+
+firm_for : (Does : Makes) (saved : Saved) (fault : Option Fault) (wrote : IsSafe Does saved fault) → IsFirmGround saved → IsFirmFor Does saved fault wrote
+firm_for Does saved fault (inl only) ground = tt
+firm_for Does saved fault (inr (may, is)) ground = λ way. (ground.sound, inr ground.kept)
+
+-- what a command wrote, whatever it was
+wrote_of : (command : Command) (call : Call) (code : ℕ) (fault : Option Fault) (ran : Ran command call code fault) → Undisturbed call.saved.old call.saved.new → IsSafe (made_by command call code fault ran) call.saved fault
+wrote_of (a_command.Status flags) call code fault ran calm = ran.saving.safe calm
+wrote_of (a_command.Add files) call code fault ran calm = ran.safe calm
+wrote_of (a_command.Forget files) call code fault ran calm = ran.safe calm
+wrote_of (a_command.Remove after files) call code fault ran calm = ran.safe calm
+wrote_of (a_command.Copy source target) call code fault ran calm = ran.safe calm
+wrote_of (a_command.SetParents p1 p2) call code fault ran calm = ran.safe calm
+wrote_of a_command.DebugDirstate call code fault ran calm = inl (inl (unwritten call.saved.old.history call.saved.new.history ran.only.passes))
+wrote_of a_command.DebugScript call code fault ran calm = inl (inl ran.idle.unwritten)
+wrote_of (a_command.DebugLoad n) call code fault ran calm = inl (inl ran.idle.unwritten)
+
+-- of a call that was answered
+pub answered_upon : (call : Call) (code : ℕ) (fault : Option Fault) (answered : IsAnswered call code fault) → IsSafeUpon (made_by call.command call code fault answered.ran) call.saved
+answered_upon call code fault answered calm keep first ground =
+    let Does = made_by call.command call code fault answered.ran in
+    let wrote : IsSafe Does call.saved fault = wrote_of call.command call code fault answered.ran calm in (
+      published_in Does call.saved fault wrote,
+      own_of Does call.saved fault wrote,
+      answered.crash calm keep first wrote (firm_for Does call.saved fault wrote ground),
+    )

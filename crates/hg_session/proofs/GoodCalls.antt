@@ -15,13 +15,12 @@ use Rattle.hg_session.specs.Acts.{AllSteps, ChangesTree, Deed, Stepping, TakesAw
 use Rattle.hg_session.specs.Answered.{IsAnswered, Ran, made_by}
 use Rattle.hg_session.specs.Call.{Call, Count, IsLeftAlone, Looked, Saved, Sink, Watched}
 use Rattle.hg_session.specs.Change.{ChangesBehind, Come, IsUnwritten, NoneOurs, come_so, up_to}
-use Rattle.hg_session.specs.Crash.{IsFirmGround, IsSafeFromCrashes}
 use Rattle.hg_session.specs.Good.{IsFair, IsGoodGround, IsGoodIn, KeepsGood, OthersKeepStood, ReadsRight, StaysGood}
 use Rattle.hg_session.specs.Status.{AreEarnedFor, noted_in}
 use Rattle.hg_session.specs.Told.{Told}
 use Rattle.hg_session.specs.declared.acting.Changing.TheVariants as a_change
 use Rattle.hg_session.proofs.Crashes.{crash_unwritten}
-use Rattle.hg_session.proofs.Firm.{safe_upon}
+use Rattle.hg_session.proofs.Firm.{IsFirmGround, IsSafeUpon, answered_upon}
 use Rattle.hg_session.proofs.GoodParents.{reparented_good}
 use Rattle.hg_session.proofs.GoodStays.{before, good_by, good_stays, one_table}
 use Rattle.hg_session.proofs.GoodParts.{stood_upto}
@@ -149,25 +148,25 @@ module _ (copy : Watched tree.History) (files : Watched shelf.History) (oversize
   abbrev call : Command → Call
   call command = record { command = command; looked = looked; saved = saved; locks = locks; out = out; err = err }
 
-  change_stays : (command : Command) (come : Come (makes_of command copy files) files) → Goes saved.old saved.new → IsSafeFromCrashes (come_so come) saved → StaysGood looked saved
+  change_stays : (command : Command) (come : Come (makes_of command copy files) files) → Goes saved.old saved.new → IsSafeUpon (come_so come) saved → StaysGood looked saved
   change_stays command come goes crash by past fair ground =
       good_stays saved.old saved.new goes fair.calm fair.keep fair.plain fair.parent by fair.published ground.good (shown (goes.past.told ∙ fair.calm.told)) (come_so come) (may_nothing command copy files)
       (λ from after within none. asks_none command copy files files.new from)
       (λ loaded made said changed does there. made_good copy files (shelf.now files.new).files goes.past fair.calm.told (there_stays files.new files.old.last fair.plain) command by loaded made said changed does.2 there)
-      (safe_upon (come_so come) saved crash fair.calm fair.keep ground.latest (firm_by looked saved by goes fair ground))
+      (crash fair.calm fair.keep ground.latest (firm_by looked saved by goes fair ground))
 
-  status_stays : (table : Option Table) (notes : NotesData) → IfSome table (λ t. AreEarnedFor looked t notes) → Goes saved.old saved.new → IsSafeFromCrashes (noted_in files table notes) saved → StaysGood looked saved
+  status_stays : (table : Option Table) (notes : NotesData) → IfSome table (λ t. AreEarnedFor looked t notes) → Goes saved.old saved.new → IsSafeUpon (noted_in files table notes) saved → StaysGood looked saved
   status_stays table notes earned goes crash by past fair ground =
       good_stays saved.old saved.new goes fair.calm fair.keep fair.plain fair.parent by fair.published ground.good (shown (goes.past.told ∙ fair.calm.told)) (noted_in files table notes) (may_note_nothing files table notes)
       (λ from after within none. noted_fair files table notes files.new from (kept_fair saved goes fair.calm fair.kept ground.there from after within none))
       (noted_does looked table notes by past earned fair.honest fair.told fair.plain)
-      (safe_upon (noted_in files table notes) saved crash fair.calm fair.keep ground.latest (firm_by looked saved by goes fair ground))
+      (crash fair.calm fair.keep ground.latest (firm_by looked saved by goes fair ground))
 
   -- nothing is made of the record
-  look_stays : Goes saved.old saved.new → IsSafeFromCrashes makes_nothing saved → StaysGood looked saved
+  look_stays : Goes saved.old saved.new → IsSafeUpon makes_nothing saved → StaysGood looked saved
   look_stays goes crash by past fair ground =
       good_stays saved.old saved.new goes fair.calm fair.keep fair.plain fair.parent by fair.published ground.good (shown (goes.past.told ∙ fair.calm.told)) makes_nothing (λ from to may. may)
-      (λ from after within none. tt) (λ loaded made said changed does there. absurd does) (safe_upon makes_nothing saved crash fair.calm fair.keep ground.latest (firm_by looked saved by goes fair ground))
+      (λ from after within none. tt) (λ loaded made said changed does there. absurd does) (crash fair.calm fair.keep ground.latest (firm_by looked saved by goes fair ground))
 
   reads_right : tree.Extends copy.old copy.new → Goes saved.old saved.new → ReadsRight looked saved
   reads_right past goes fair apart ground t read =
@@ -184,16 +183,16 @@ module _ (copy : Watched tree.History) (files : Watched shelf.History) (oversize
       let right = trusted_are_right (rows_in t store) t copy.old copy.new past fair.honest apart trusted in
       record { end = right; each = λ keeps. right_by_end looked t goes.past.later keeps right }
 
-  change_good : (command : Command) (come : Come (makes_of command copy files) files) → ChangesBehind command copy come.read → Goes saved.old saved.new → IsSafeFromCrashes (come_so come) saved → KeepsGood looked saved
+  change_good : (command : Command) (come : Come (makes_of command copy files) files) → ChangesBehind command copy come.read → Goes saved.old saved.new → IsSafeUpon (come_so come) saved → KeepsGood looked saved
   change_good command come changes goes crash =
       let past = behind_past command copy come.read changes in
       record { past = past; stays = change_stays command come goes crash; right = reads_right past goes }
 
-  look_good : IsLeftAlone copy → Goes saved.old saved.new → IsSafeFromCrashes makes_nothing saved → KeepsGood looked saved
+  look_good : IsLeftAlone copy → Goes saved.old saved.new → IsSafeUpon makes_nothing saved → KeepsGood looked saved
   look_good alone goes crash = record { past = alone_past copy alone; stays = look_stays goes crash; right = reads_right (alone_past copy alone) goes }
 
   -- what a command did keeps what is good
-  ran_good : (command : Command) (ran : Ran command (call command) code fault) → Goes saved.old saved.new → IsSafeFromCrashes (made_by command (call command) code fault ran) saved → KeepsGood looked saved
+  ran_good : (command : Command) (ran : Ran command (call command) code fault) → Goes saved.old saved.new → IsSafeUpon (made_by command (call command) code fault ran) saved → KeepsGood looked saved
   ran_good (a_command.Status flags) ran goes crash = record { past = ran.tree.past; stays = status_stays ran.table ran.notes ran.earned goes crash; right = reads_right ran.tree.past goes }
   ran_good (a_command.Add words) ran goes crash = change_good (a_command.Add words) ran.come ran.copy goes crash
   ran_good (a_command.Forget words) ran goes crash = change_good (a_command.Forget words) ran.come ran.copy goes crash
@@ -206,4 +205,4 @@ module _ (copy : Watched tree.History) (files : Watched shelf.History) (oversize
 
   -- however a call ended
   pub answered_good : (command : Command) → IsAnswered (call command) code fault → KeepsGood looked saved
-  answered_good command is = ran_good command is.ran is.kept is.crash
+  answered_good command is = ran_good command is.ran is.kept (answered_upon (call command) code fault is)

@@ -25,7 +25,7 @@ use Rattle.hg_save.specs.Record.{docket_in, shown_in}
 use Rattle.hg_save.specs.declared.loaded.Loaded.{Loaded}
 use Rattle.hg_save.proofs.Bases.{nodes_at}
 use Rattle.hg_session.proofs.Lending.{lends_by}
-use Rattle.hg_session.proofs.Locked.{end_remains, unwritten, unwritten_then}
+use Rattle.hg_session.proofs.Locked.{end_remains, unwritten_then}
 use Rattle.hg_session.proofs.NotesKept.{news_change, notes_keep}
 use Rattle.hg_session.proofs.Publishing.{kept_over, published_over}
 use Rattle.hg_session.proofs.ReadNodes.{nodes_by}

@@ -84,7 +84,7 @@ pub record IsAnswered (call : Call) (code : ℕ) (fault : Option Fault) : Type 0
   pub kept : Goes call.saved.old call.saved.new
   -- at each moment of the call a crash leaves a record of what it might have left at the start, of what the call published of what its command made, or of what
   -- others published since; and the premises hold at the end, so that this can be said of the next call
-  pub crash : IsSafeFromCrashes (made_by call.command call code fault ran) call.saved
+  pub crash : IsSafeFromCrashes (made_by call.command call code fault ran) call.saved fault
   -- the premise on identifiers holds at the end upon any ground
   pub latest : Undisturbed call.saved.old call.saved.new → KeepsRecords others call.saved.new call.saved.old.history.last → IsLatest (last_scene call.saved.old)
       → IsLatest (last_scene call.saved.new)

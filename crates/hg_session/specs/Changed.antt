@@ -105,7 +105,7 @@ pub record IsQuietFor (command : Command) (looked : Looked) : Type 0 where
 
 -- what a command that changes the record did that ended with this status and this fault, or with none
 pub record RanChange (call : Call) (status : ℕ) (fault : Option Fault) : Type 0 where
-  -- the record that was read in the call, where one was, and what was made of it, where something was: all that follows speaks of these
+  -- the record that was read in the call, where one was, and what was made of it, where something was: all that follows but `complete` speaks of these
   pub come : Come (makes_in call) call.looked.shelf
   -- without a fault each word did what it says to the record that was read, the refused ones were told, and the rest is recorded; and with one: where it
   -- was met, why, and what stands in both streams

@@ -147,7 +147,7 @@ pub(crate) fn act<T: Tree, S: Shelf>(
     tree: &mut T,
     shelf: &mut S,
 ) -> Result<Vec<u8>, OpFault>
-    // `ActsOn` in specs/Acts.antt.
+    // `ActsOn` in specs/Acting.antt.
     ensures acts { ActsOn
         command.now
         (watched T.history T.faults tree.old tree.new)

@@ -1,28 +1,19 @@
 //! A command that changes the record: the record, what its words make of it, a publication.
 
-ghost use Rattle.std.specs.Prelude.{◌≡◌, ◌⊎◌, ◌<◌, ◌≤◌, ◌∷◌, [], Err, IfErr, IfOk, IsTrue, None, OnOk, false, length, true};
+ghost use Rattle.std.specs.Prelude.{◌≡◌, ◌⊎◌, ◌<◌, ◌≤◌, Err, IfErr, IsTrue, OnOk, false, true};
 ghost use Rattle.hg_append.specs.declared.way.Way.TheVariants as a_way;
 ghost use Rattle.hg_append.specs.Loss.{plan_of};
-ghost use Rattle.hg_base.specs.Fault.{HasCause};
-ghost use Rattle.hg_docket.specs.Docket.{docket_of, docket_refusal};
-ghost use Rattle.hg_image.specs.Reading.{data_reading};
+ghost use Rattle.hg_docket.specs.Docket.{docket_of};
 ghost use Rattle.hg_save.specs.Over.{HasUsed, IsLentRight};
 ghost use Rattle.hg_save.specs.Leads.{IsHeld};
-ghost use Rattle.hg_save.specs.Loads.{Try};
-ghost use Rattle.hg_session.specs.Acts.{makes_of};
 ghost use Rattle.hg_session.specs.Anew.{IsRecorded, MetWriting, WritesOnly};
-ghost use Rattle.hg_session.specs.Reading.{IsOpened, LoadsOrRefuses, NodesFind};
 ghost use Rattle.hg_session.specs.Call.{saved_by, watched};
-ghost use Rattle.hg_session.specs.Change.{AsksChange, ChangesBehind, IsDone, MetChanging, of_change};
-ghost use Rattle.hg_session.specs.Changing.{FailsOrUnwritten, IsSafeHeld, fault_of, CameHeld};
-ghost use Rattle.hg_session.specs.Loaded.{AsksRecord};
+ghost use Rattle.hg_session.specs.Changing.{FailsOrUnwritten, fault_of, CameHeld};
 ghost use Rattle.hg_session.specs.Ways.{CanWrite};
 ghost use Rattle.hg_ops.specs.declared.refusal.OpFault.TheVariants as an_op_fault;
-ghost use Rattle.hg_session.specs.Told.{refusing};
 ghost use Rattle.hg_session.specs.declared.change_fault.ChangeFault.TheVariants as a_fault;
 ghost use Rattle.hg_session.specs.declared.read_fault.ReadFault.TheVariants as a_read;
 ghost use Rattle.hg_shelf.specs.Asks.{AsksNothing};
-ghost use Rattle.hg_shelf.specs.History.{Passes};
 ghost use Rattle.hg_shelf.specs.Images.{Goes, course, last_scene};
 ghost use Rattle.hg_shelf.specs.Polite.{Undisturbed};
 

@@ -1,6 +1,6 @@
 //! The one copy of `copy`.
 
-ghost use Rattle.std.specs.Prelude.{◌≡◌, ◌<◌, Err, IfErr, IfOk, IsTrue, OnOk, false};
+ghost use Rattle.std.specs.Prelude.{◌≡◌, ◌<◌, Err, IfErr, IfOk, OnOk, false};
 ghost use Rattle.hg_base.specs.Fault.{HasCause};
 ghost use Rattle.hg_mixed.specs.Edits.{IsOfSameImage};
 ghost use Rattle.hg_mixed.specs.Held.{table};

@@ -1,8 +1,8 @@
 //! The text of the record: the dirstate is loaded, and all that it records is printed.
 
-ghost use Rattle.std.specs.Prelude.{◌≡◌, ◌≤◌, ◌∷◌, [], IsTrue, IfOk, MatchOption, None, IfErr, OnOk, length};
+ghost use Rattle.std.specs.Prelude.{◌≡◌, ◌∷◌, [], IsTrue, IfOk, MatchOption, None, IfErr, OnOk};
 ghost use Rattle.hg_base.specs.Fault.{HasCause};
-ghost use Rattle.hg_docket.specs.Docket.{docket_of, docket_refusal};
+ghost use Rattle.hg_docket.specs.Docket.{docket_of};
 ghost use Rattle.hg_entry.specs.Table.{Table};
 ghost use Rattle.hg_image.specs.Reading.{data_reading};
 ghost use Rattle.hg_session.specs.Call.{counted, saved_by, watched};

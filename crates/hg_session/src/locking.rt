@@ -1,18 +1,13 @@
 //! The lock round a change of the record, and what is told of it.
 
-ghost use Rattle.std.specs.Prelude.{◌≡◌, ◌⊎◌, ◌<◌, List, Option, ℕ, IfErr, IfOk, IsTrue, MatchOption, None, OnOk, Err};
-ghost use Rattle.hg_session.specs.Acts.{makes_of};
+ghost use Rattle.std.specs.Prelude.{◌≡◌, ◌⊎◌, ◌<◌, IfErr, MatchOption, None, OnOk, Err};
 ghost use Rattle.hg_session.specs.Call.{Count, Sink, counted, saved_by, watched};
-ghost use Rattle.hg_session.specs.Change.{AsksChange, ChangesBehind, IsDone, IsLocked, IsSafe, MetLocking, Stretch, of_change};
-ghost use Rattle.hg_session.specs.Changing.{FailsOrUnwritten, fault_of, once_freed, EndsChange, CameLocked};
-ghost use Rattle.hg_session.specs.Loaded.{AsksRecord};
+ghost use Rattle.hg_session.specs.Changing.{FailsOrUnwritten, once_freed, EndsChange, CameLocked};
 ghost use Rattle.hg_session.specs.Put.{IsSilent};
 ghost use Rattle.hg_ops.specs.declared.refusal.OpFault.TheVariants as an_op_fault;
 ghost use Rattle.hg_session.specs.Told as told_is;
-ghost use Rattle.hg_session.specs.Told.{refusing};
 ghost use Rattle.hg_session.specs.declared.change_fault.ChangeFault.TheVariants as a_fault;
 ghost use Rattle.hg_shelf.specs.Images.{Goes, course};
-ghost use Rattle.hg_shelf.specs.Polite.{Undisturbed};
 
 use crate::change_fault::ChangeFault;
 use crate::changing::change_locked;
@@ -89,7 +84,7 @@ pub(crate) fn change_record<T: Tree, S: Shelf, E: Sink>(
     shelf: &mut S,
     err: &mut E,
 ) -> Outcome
-    // `EndsChange` in specs/Ends.antt, whatever else a call has that isn't touched.
+    // `EndsChange` in specs/Changing.antt, whatever else a call has that isn't touched.
     ensures ran { (out : Sink) (oversize : Count) → IsSilent out → oversize.after ≡ oversize.before
         → EndsChange
         (record {

@@ -2,7 +2,7 @@
 
 ghost use Rattle.std.specs.Prelude.{◌≡◌, ◌∷◌, [], IfErr, IsTrue};
 ghost use Rattle.hg_base.specs.Fault.{HasCause};
-ghost use Rattle.hg_docket.specs.Docket.{docket_of, docket_refusal};
+ghost use Rattle.hg_docket.specs.Docket.{docket_of};
 ghost use Rattle.hg_image.specs.Reading.{data_reading};
 ghost use Rattle.hg_save.specs.Loads.{Try};
 ghost use Rattle.hg_session.specs.Reading.{IsOpened, LoadsOrRefuses, NodesFind};

@@ -3,7 +3,6 @@
 ghost use Rattle.std.specs.Prelude.{◌≡◌, ◌⊎◌, ◌<◌, Err, IfErr, IfOk, IsTrue, OnOk, false};
 ghost use Rattle.hg_base.specs.Fault.{HasCause};
 ghost use Rattle.hg_mixed.specs.Edits.{IsOfSameImage};
-ghost use Rattle.hg_nodes.specs.Edits.{IsSame};
 ghost use Rattle.hg_mixed.specs.Held.{table};
 ghost use Rattle.hg_ops.specs.Parent.{AsksStore};
 ghost use Rattle.hg_ops.specs.declared.refusal.OpFault.TheVariants as an_op_fault;

@@ -1,8 +1,8 @@
 //! A status saves what it noted, where it gets the lock and the docket still stands.
 
-ghost use Rattle.std.specs.Prelude.{◌≡◌, ◌⊎◌, ◌≤◌, ◌↔◌, ◌∷◌, [], IfErr, IfOk, IsTrue, None, Ok, false, length, true};
+ghost use Rattle.std.specs.Prelude.{◌≡◌, ◌⊎◌, ◌↔◌, ◌∷◌, [], IfErr, IfOk, IsTrue, Ok, false, true};
 ghost use Rattle.hg_base.specs.Fault.{HasCause};
-ghost use Rattle.hg_docket.specs.Docket.{docket_of, docket_refusal};
+ghost use Rattle.hg_docket.specs.Docket.{docket_of};
 ghost use Rattle.hg_entry.specs.Table.{Table};
 ghost use Rattle.hg_mixed.specs.Held.{table};
 ghost use Rattle.hg_save.specs.Asked.{docket_ask};
@@ -74,7 +74,7 @@ fn save_held<S: Shelf>(
     requires unchanged { mixed.old.changed ≡ false }
     requires can { CanApply notes (table mixed.old) }
     requires some { IsBlank notes → ⊥ }
-    // `SavesHeld` in specs/Saving.antt.
+    // `SavesHeld` in specs/SavingNotes.antt.
     ensures saves { (start : History) (recorded : Table) (since : IsOpenedSince start (S.history shelf.old) loaded.now recorded mixed.old) → AreNews recorded notes
         → SavesHeld
         (IsTryOf start (S.history shelf.old) loaded.now recorded mixed.old since)
@@ -128,7 +128,7 @@ pub(crate) fn save_notes<S: Shelf>(
     requires nodes { mixed.old.bytes ≡ loaded.now.nodes.items }
     requires unchanged { mixed.old.changed ≡ false }
     requires can { CanApply notes (table mixed.old) }
-    // `SavesNotes` in specs/Saving.antt.
+    // `SavesNotes` in specs/SavingNotes.antt.
     ensures saves { (start : History) (recorded : Table) (since : IsOpenedSince start (S.history shelf.old) loaded.now recorded mixed.old) → AreNews recorded notes
         → SavesNotes
         (IsTryOf start (S.history shelf.old) loaded.now recorded mixed.old since)

@@ -1,5 +1,5 @@
 -- A change of the record: the load, what the command makes of it, the publication.
-use Rattle.std.proofs.Common.{Some, None, Err, inl, inr, refl, sym, ap, ◌∙◌, subst, ◌≡◌}
+use Rattle.std.proofs.Common.{Some, None, Err, inl, inr, refl, sym, ap, ◌∙◌, subst}
 use Rattle.std.proofs.lemmas.Result.{err_from_is_err_and}
 use Rattle.hg_ops.specs.declared.refusal.OpFault.{OpFault}
 use Rattle.hg_report.specs.Cause.{of_op}
